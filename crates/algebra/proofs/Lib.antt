@@ -1,0 +1,4 @@
+pub mod Tests
+pub mod Texts
+pub mod Bytes
+pub mod Refusals

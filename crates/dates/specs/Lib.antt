@@ -1,0 +1,4 @@
+pub mod Ticks
+pub mod ShiftTicks
+pub mod Causes
+pub mod Reading

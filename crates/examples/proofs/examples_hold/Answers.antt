@@ -1,0 +1,14 @@
+use mathlib.Core.Path.{refl}
+use Rattle.examples.proofs.examples_hold.Needs as need
+
+pub returns : need.returns
+returns c = record {
+  pandTie = refl;
+  pandLate = refl;
+  pandEarly = refl;
+  beforeTie = refl;
+  beforeNever = refl;
+  shifts = refl;
+  causeOr = refl;
+  causeTie = refl;
+}

@@ -1,0 +1,5 @@
+pub mod Rows
+pub mod Letters
+pub mod Stacks
+pub mod Readings
+pub mod Evaluations

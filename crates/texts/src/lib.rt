@@ -1,0 +1,3 @@
+// Texts: where a term ends, whether bytes are a text, and the date of a text.
+pub mod evaluation;
+pub mod scan;
