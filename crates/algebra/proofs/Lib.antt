@@ -2,3 +2,9 @@ pub mod Tests
 pub mod Texts
 pub mod Bytes
 pub mod Refusals
+pub mod Links
+pub mod Ranks
+pub mod Sheet
+pub mod Steps
+pub mod Derived
+pub mod Numbers

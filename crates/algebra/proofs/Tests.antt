@@ -1,13 +1,8 @@
 -- Tests, which are true or false.
 -- Assumes nothing.
 use mathlib.Core.Path.{_≡_, refl}
-use mathlib.Core.Bool.{Bool, true, false, not, cond}
-use mathlib.Core.Logic.{_⊎_, inl, inr}
+use mathlib.Core.Bool.{Bool, true, false, cond}
 use lib.Dec.{T}
-
-pub yes-or-no : (b : Bool) → T b ⊎ T (not b)
-yes-or-no true = inl tt
-yes-or-no false = inr tt
 
 pub bool-ext : (a b : Bool) → (T a → T b) → (T b → T a) → a ≡ b
 bool-ext true true f g = refl

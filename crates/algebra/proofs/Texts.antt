@@ -16,7 +16,7 @@ use Rattle.algebra.specs.declared.Token.{Token}
 use Rattle.algebra.specs.declared.Token.the-variants.{Letter, Never, Joins, Unknown}
 use Rattle.algebra.specs.Texts.{operatorByte, neverByte, write, Read, end, bad, on, paired, front, terms}
 use Rattle.algebra.specs.Replacing.{Replaced, here, left, right, Put}
-use Rattle.algebra.proofs.Tests.{yes-or-no}
+use Rattle.algebra.specs.Sizes.{yes-or-no}
 
 -- bytes and what they are belong together
 pub record Spelling {V : Type 0} (f : V → ℕ) (tok : ℕ → Token V) : Type 0 where

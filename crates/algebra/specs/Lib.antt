@@ -1,6 +1,11 @@
 pub mod Kinds
+pub mod Sizes
 pub mod Keyed
 pub mod Terms
 pub mod Texts
 pub mod Replacing
 pub mod Refusals
+pub mod Ranks
+pub mod Rules
+pub mod Steps
+pub mod Links

@@ -36,3 +36,9 @@ abbrev pub Among : ℕ → Term ℕ → Type 0
 Among n (leaf v) = v < n
 Among n never = Unit {0}
 Among n (node o l r) = Among n l × Among n r
+
+-- the term with a term for each letter
+abbrev pub inst : {V W : Type 0} → (V → Term W) → Term V → Term W
+inst σ (leaf v) = σ v
+inst σ never = never
+inst σ (node o l r) = node o (inst σ l) (inst σ r)
