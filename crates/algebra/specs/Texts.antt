@@ -97,7 +97,7 @@ pub record Whole (n : ℕ) (bs : List ℕ) : Type 0 where
   pub letters : Among n term
 
 -- a text: one whole term over the letters a to x, of at most 511 bytes
-pub record Text (bs : List ℕ) : Type 0 where
+pub record IsText (bs : List ℕ) : Type 0 where
   pub whole : Whole 24 bs
   pub short : length bs ≤ 511
 

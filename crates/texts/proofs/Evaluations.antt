@@ -9,7 +9,7 @@ use Rattle.std.specs.declared.result.Result.{Result}
 use Rattle.std.specs.declared.result.Result.the-variants.{Ok, Err}
 use Rattle.algebra.specs.Kinds.{Kind}
 use Rattle.algebra.specs.Refusals.{Refused, Granted}
-use Rattle.algebra.specs.Texts.{Text}
+use Rattle.algebra.specs.Texts.{IsText}
 use Rattle.algebra.proofs.Refusals.{one-answer}
 use Rattle.texts.specs.Evaluation.{evaluationCode, EvaluationAsks, DateOf, Evaluated}
 use Rattle.texts.specs.declared.evaluation.EvaluationRefusal.{EvaluationRefusal}
@@ -27,7 +27,7 @@ codes-apart SmallWork NoDating h = absurd (omega arith)
 codes-apart SmallWork SmallWork h = refl
 
 module _ {D : Type 0} (text : List ℕ) (ds : List D) (room : ℕ) where
-  pub no-text : (Text text → ⊥) → Refused evaluationCode (EvaluationAsks text ds room) NoText
+  pub no-text : (IsText text → ⊥) → Refused evaluationCode (EvaluationAsks text ds room) NoText
   no-text h = record { fails = h; lower = lower }
     where
       lower : (f : EvaluationRefusal) → evaluationCode f < 51 → EvaluationAsks text ds room f
@@ -35,7 +35,7 @@ module _ {D : Type 0} (text : List ℕ) (ds : List D) (room : ℕ) where
       lower NoDating l = absurd (omega arith)
       lower SmallWork l = absurd (omega arith)
 
-  pub no-dating : Text text → (length ds ≡ 24 → ⊥) → Refused evaluationCode (EvaluationAsks text ds room) NoDating
+  pub no-dating : IsText text → (length ds ≡ 24 → ⊥) → Refused evaluationCode (EvaluationAsks text ds room) NoDating
   no-dating t h = record { fails = h; lower = lower }
     where
       lower : (f : EvaluationRefusal) → evaluationCode f < 52 → EvaluationAsks text ds room f
@@ -43,7 +43,7 @@ module _ {D : Type 0} (text : List ℕ) (ds : List D) (room : ℕ) where
       lower NoDating l = absurd (omega arith)
       lower SmallWork l = absurd (omega arith)
 
-  pub small-work : Text text → length ds ≡ 24 → (256 ≤ room → ⊥) → Refused evaluationCode (EvaluationAsks text ds room) SmallWork
+  pub small-work : IsText text → length ds ≡ 24 → (256 ≤ room → ⊥) → Refused evaluationCode (EvaluationAsks text ds room) SmallWork
   small-work t e h = record { fails = h; lower = lower }
     where
       lower : (f : EvaluationRefusal) → evaluationCode f < 53 → EvaluationAsks text ds room f
@@ -51,7 +51,7 @@ module _ {D : Type 0} (text : List ℕ) (ds : List D) (room : ℕ) where
       lower NoDating l = e
       lower SmallWork l = absurd (omega arith)
 
-  pub granted : Text text → length ds ≡ 24 → 256 ≤ room → Granted (EvaluationAsks text ds room)
+  pub granted : IsText text → length ds ≡ 24 → 256 ≤ room → Granted (EvaluationAsks text ds room)
   granted t e h NoText = t
   granted t e h NoDating = e
   granted t e h SmallWork = h

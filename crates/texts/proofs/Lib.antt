@@ -3,3 +3,4 @@ pub mod Letters
 pub mod Stacks
 pub mod Readings
 pub mod Evaluations
+pub mod Grow

@@ -8,7 +8,7 @@ use Rattle.std.specs.declared.result.Result.{Result}
 use Rattle.algebra.specs.Kinds.{Kind}
 use Rattle.algebra.specs.Refusals.{Answers}
 use Rattle.algebra.specs.Terms.{Term, date, datingOf}
-use Rattle.algebra.specs.Texts.{Text, textOf}
+use Rattle.algebra.specs.Texts.{IsText, textOf}
 use Rattle.texts.specs.declared.evaluation.EvaluationRefusal.{EvaluationRefusal}
 use Rattle.texts.specs.declared.evaluation.EvaluationRefusal.the-variants.{NoText, NoDating, SmallWork}
 
@@ -20,7 +20,7 @@ evaluationCode SmallWork = 53
 
 -- what an evaluation asks for, by the refusal that it else gives: a text, a dating of exactly 24 dates, and a work table of at least 256 dates
 abbrev pub EvaluationAsks : {D : Type 0} → List ℕ → List D → ℕ → EvaluationRefusal → Type 0
-EvaluationAsks text ds room NoText = Text text
+EvaluationAsks text ds room NoText = IsText text
 EvaluationAsks text ds room NoDating = length ds ≡ 24
 EvaluationAsks text ds room SmallWork = 256 ≤ room
 

@@ -7,7 +7,7 @@ ghost use Rattle.std.specs.Orderings.{Decides};
 ghost use Rattle.std.specs.Vec.{refused};
 ghost use Rattle.std.specs.declared.result.Result.{Result};
 ghost use Rattle.algebra.specs.Terms.{datingOf, joined};
-ghost use Rattle.algebra.specs.Texts.{Text};
+ghost use Rattle.algebra.specs.Texts.{IsText};
 ghost use Rattle.texts.specs.Evaluation.{DateOf, Evaluated, evaluationCode};
 ghost use Rattle.texts.specs.Stack.{Room, stacked};
 ghost use Rattle.texts.specs.declared.evaluation.EvaluationRefusal.{EvaluationRefusal};
@@ -87,7 +87,7 @@ fn push_token<D: Date>(token: Token<u8>, dating: &[D], work: &mut [D], top: usiz
 
 // The date of a text.
 fn date_of_text<D: Date>(text: &[u8], dating: &[D], work: &mut [D]) -> D
-    requires text { ⌜ Text (now text) ⌝ }
+    requires text { ⌜ IsText (now text) ⌝ }
     requires dates { ⌜ length (now dating) ≡ 24 ⌝ }
     requires room { ⌜ 256 ≤ length (now work) ⌝ }
     ensures { λ r. ⌜ DateOf kind (now (dating .entry)) (now (text .entry)) r ⌝ }

@@ -2,3 +2,4 @@
 pub mod derivations;
 pub mod evaluation;
 pub mod scan;
+pub mod text;

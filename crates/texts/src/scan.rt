@@ -8,7 +8,7 @@ ghost use Rattle.std.specs.Options.{Cases};
 ghost use Rattle.std.specs.Orderings.{Decides};
 ghost use Rattle.std.specs.shelf.Lists.{All};
 ghost use Rattle.algebra.specs.Terms.{Term};
-ghost use Rattle.algebra.specs.Texts.{Text, Whole, eventToken, textOf};
+ghost use Rattle.algebra.specs.Texts.{IsText, Whole, eventToken, textOf};
 ghost use Rattle.texts.specs.Spans.{Spans};
 use algebra::Operator;
 use algebra::Token;
@@ -81,7 +81,7 @@ pub fn is_whole(bytes: &[u8], events: u8) -> bool
 
 // Whether the bytes are a text: one whole term over the letters a to x, of at most 511 bytes.
 pub fn is_text(bytes: &[u8]) -> bool
-    ensures { λ r. ⌜ Decides r (Text (now (bytes .entry))) ⌝ }
+    ensures { λ r. ⌜ Decides r (IsText (now (bytes .entry))) ⌝ }
 {
     bytes.len() <= 511 && is_whole(bytes, 24)
 }
