@@ -77,9 +77,10 @@ pub one-text : OneReading
 one-text = one-reading eventByte eventToken event-spelling
 
 pub reads-texts : ReadsTexts
-reads-texts bs t =
-    (read-back eventByte eventToken event-spelling bs t,
-    λ e. ap (terms eventToken) e ∙ read-text eventByte eventToken event-spelling t)
+reads-texts bs t = (
+  read-back eventByte eventToken event-spelling bs t,
+  λ e. ap (terms eventToken) e ∙ read-text eventByte eventToken event-spelling t,
+)
 
 pub every-place : EveryPlace
 every-place t place h = let s = spot-at eventByte t place h in record { term = s .term; rest = s .rest; here = s .at }

@@ -30,8 +30,8 @@ steps-derive bs cs w n low high way σ place rest h e =
     let p = inst σ (oldSide way (numbered n)) in
     let q = inst σ (newSide way (numbered n)) in
     let put =
-      puts-terms (w .to) p q place rest (subst (λ (x : List ℕ). place < length x) (w .ends) h)
-      (subst (λ (x : List ℕ). drop place x ≡ textOf p ++ rest) (w .ends) e) in
+    puts-terms (w .to) p q place rest (subst (λ (x : List ℕ). place < length x) (w .ends) h)
+    (subst (λ (x : List ℕ). drop place x ≡ textOf p ++ rest) (w .ends) e) in
     record {
       from = w .from;
       to = put .new;

@@ -51,9 +51,9 @@ module _ {D : Type 0} (K : Kind D) where
   same-link = record {
     nevers = same-itself (K .never);
     orders = λ p p′ q q′ h k.
-      bool-ext _ _
-      (λ t. K .trans p′ q q′ (K .trans p′ p q (h .back) t) (k .fore))
-      (λ t. K .trans p q′ q (K .trans p p′ q′ (h .fore) t) (k .back));
+        bool-ext _ _
+        (λ t. K .trans p′ q q′ (K .trans p′ p q (h .back) t) (k .fore))
+        (λ t. K .trans p q′ q (K .trans p p′ q′ (h .fore) t) (k .back));
   }
 
   -- a term for each letter is a date for each letter

@@ -67,14 +67,14 @@ module _ {D : Type 0} (K : Kind D) where
   pub here : (p : D) (xs : List D) → Placed (p ∷ xs) p
   here p xs = record {
     above = λ q n.
-      omega (arith, one-true _ (no-later-itself K p), one-false _ n, rank-mono xs q p (not-later p q n));
+        omega (arith, one-true _ (no-later-itself K p), one-false _ n, rank-mono xs q p (not-later p q n));
     small = omega (arith, one-true _ (no-later-itself K p), rank-small xs p);
   }
 
   pub there : (x p : D) (xs : List D) → Placed xs p → Placed (x ∷ xs) p
   there x p xs h = record {
     above = λ q n.
-      omega (arith, h .above q n, one-mono (K .noLater x q) (K .noLater x p) (λ t. K .trans x q p t (not-later p q n)));
+        omega (arith, h .above q n, one-mono (K .noLater x q) (K .noLater x p) (λ t. K .trans x q p t (not-later p q n)));
     small = omega (arith, h .small, one-small (K .noLater x p));
   }
 

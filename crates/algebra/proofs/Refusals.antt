@@ -9,14 +9,13 @@ use Rattle.std.specs.declared.result.Result.the-variants.{Ok, Err}
 use Rattle.algebra.specs.Refusals.{Refused, Granted, Answers}
 
 module _ {A E : Type 0} (code : E → ℕ) (Asked : E → Type 0) (Given : A → Type 0)
-  (apart : (e f : E) → code e ≡ code f → e ≡ f) (one : Granted Asked → (x y : A) → Given x → Given y → x ≡ y) where
-
+    (apart : (e f : E) → code e ≡ code f → e ≡ f) (one : Granted Asked → (x y : A) → Given x → Given y → x ≡ y) where
   pub one-refusal : (e f : E) → Refused code Asked e → Refused code Asked f → e ≡ f
   one-refusal e f a b =
       elim (cases-order (code e) (code f)) [
-        inl same ↦ apart e f same
-      | inr (inl less) ↦ absurd (a .fails (b .lower e less))
-      | inr (inr more) ↦ absurd (b .fails (a .lower f more))
+        | inl same ↦ apart e f same
+        | inr (inl less) ↦ absurd (a .fails (b .lower e less))
+        | inr (inr more) ↦ absurd (b .fails (a .lower f more))
       ]
 
   pub one-answer : (r s : Result A E) → Answers code Asked Given r → Answers code Asked Given s → r ≡ s

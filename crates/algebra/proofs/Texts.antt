@@ -23,7 +23,6 @@ pub record Spelling {V : Type 0} (f : V → ℕ) (tok : ℕ → Token V) : Type 
   pub letters : (v : V) → tok (f v) ≡ Letter v
   pub joints : (o : Operator) → tok (operatorByte o) ≡ Joins o
   pub nevers : tok neverByte ≡ Never
-
   pub letter-back : (b : ℕ) (v : V) → tok b ≡ Letter v → b ≡ f v
   pub joint-back : (b : ℕ) (o : Operator) → tok b ≡ Joins o → b ≡ operatorByte o
   pub never-back : (b : ℕ) → tok b ≡ Never → b ≡ neverByte
@@ -52,15 +51,15 @@ module _ {V : Type 0} (f : V → ℕ) where
     term = s .term;
     rest = s .rest ++ write f r;
     at =
-      drop-append-le n (write f l) (write f r) h ∙ ap (λ (x : List ℕ). x ++ write f r) (s .at)
-      ∙ append-assoc (write f (s .term)) (s .rest) (write f r);
+        drop-append-le n (write f l) (write f r) h ∙ ap (λ (x : List ℕ). x ++ write f r) (s .at)
+        ∙ append-assoc (write f (s .term)) (s .rest) (write f r);
     put = λ q. node o (s .put q) r;
     replaced = λ q. left (s .replaced q);
     written = λ q.
-      ap (λ (x : List ℕ). operatorByte o ∷ x)
-      (ap (λ (x : List ℕ). x ++ write f r) (s .written q)
-      ∙ append-assoc (take n (write f l)) (write f q ++ s .rest) (write f r)
-      ∙ ap₂ _++_ (sym (take-append-le n (write f l) (write f r) h)) (append-assoc (write f q) (s .rest) (write f r)));
+        ap (λ (x : List ℕ). operatorByte o ∷ x)
+        (ap (λ (x : List ℕ). x ++ write f r) (s .written q)
+        ∙ append-assoc (take n (write f l)) (write f q ++ s .rest) (write f r)
+        ∙ ap₂ _++_ (sym (take-append-le n (write f l) (write f r) h)) (append-assoc (write f q) (s .rest) (write f r)));
   }
 
   in-right : (o : Operator) (l r : Term V) (m : ℕ) → Spot f r m → Spot f (node o l r) (suc (length (write f l) + m))
@@ -71,10 +70,10 @@ module _ {V : Type 0} (f : V → ℕ) where
     put = λ q. node o l (s .put q);
     replaced = λ q. right (s .replaced q);
     written = λ q.
-      ap (λ (x : List ℕ). operatorByte o ∷ x)
-      (ap (λ (x : List ℕ). write f l ++ x) (s .written q)
-      ∙ sym (append-assoc (write f l) (take m (write f r)) (write f q ++ s .rest))
-      ∙ ap (λ (x : List ℕ). x ++ (write f q ++ s .rest)) (sym (take-append-add (write f l) (write f r) m)));
+        ap (λ (x : List ℕ). operatorByte o ∷ x)
+        (ap (λ (x : List ℕ). write f l ++ x) (s .written q)
+        ∙ sym (append-assoc (write f l) (take m (write f r)) (write f q ++ s .rest))
+        ∙ ap (λ (x : List ℕ). x ++ (write f q ++ s .rest)) (sym (take-append-add (write f l) (write f r) m)));
   }
 
   node-spot : (o : Operator) (l r : Term V) → ((n : ℕ) → n < length (write f l) → Spot f l n) → ((n : ℕ) → n < length (write f r) → Spot f r n) → (n : ℕ) → n < length (write f (node o l r)) → Spot f (node o l r) n
@@ -82,11 +81,11 @@ module _ {V : Type 0} (f : V → ℕ) where
   node-spot o l r goL goR (suc n) h =
       let all = length-append (write f l) (write f r) in
       elim (yes-or-no (leb (suc n) (length (write f l)))) [
-        inl t ↦ let k : n < length (write f l) = leb→le _ _ t in in-left o l r n (omega arith) (goL n k)
-      | inr t ↦
-        let k : length (write f l) < suc n = nleb→lt _ _ t in
-        let e : length (write f l) + (n - length (write f l)) ≡ n = omega arith in
-        subst (λ (m : ℕ). Spot f (node o l r) (suc m)) e (in-right o l r (n - length (write f l)) (goR _ (omega arith)))
+        | inl t ↦ let k : n < length (write f l) = leb→le _ _ t in in-left o l r n (omega arith) (goL n k)
+        | inr t ↦
+            let k : length (write f l) < suc n = nleb→lt _ _ t in
+            let e : length (write f l) + (n - length (write f l)) ≡ n = omega arith in
+            subst (λ (m : ℕ). Spot f (node o l r) (suc m)) e (in-right o l r (n - length (write f l)) (goR _ (omega arith)))
       ]
 
   pub spot-at : (t : Term V) (n : ℕ) → n < length (write f t) → Spot f t n

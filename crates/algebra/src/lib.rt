@@ -49,8 +49,7 @@ pub fn texts_are_read()
     ensures all { λ _. ⌜ ReadsTexts ⌝ }
     ensures places { λ _. ⌜ EveryPlace ⌝ }
     ensures puts { λ _. ⌜ PutsTerms ⌝ }
-{
-}
+{}
 
 // The sheet has 42 rules, each side of which is one whole term, and every rule keeps dates, over every kind whose
 // dates are numbers. Four ranks decide whether two terms over X, Y and Z always have the same date.
@@ -58,8 +57,7 @@ pub fn rules_keep_dates()
     ensures stands { λ _. ⌜ SheetStands ⌝ }
     ensures keeps { λ _. ⌜ ((K : Kind ℕ) → SheetKeeps K) ⌝ }
     ensures ranks { λ _. ⌜ ((K : Kind ℕ) → RanksDecide K) ⌝ }
-{
-}
+{}
 
 // What is reached by rules of the sheet has the date of where it began, over every kind whose dates are numbers,
 // as terms and as texts; and a step of the sheet at a place of a text gives a text that is reached.
@@ -67,13 +65,11 @@ pub fn derivations_keep_dates()
     ensures reached { λ _. ⌜ ((K : Kind ℕ) → ReachedKeeps K) ⌝ }
     ensures derived { λ _. ⌜ ((K : Kind ℕ) → DerivedKeeps K) ⌝ }
     ensures steps { λ _. ⌜ StepsDerive ⌝ }
-{
-}
+{}
 
 // Putting a term of the same date for another keeps the date of the whole; more generally, where the dates of the
 // letters are linked by a relation that knows never and the order, so are the dates of every term.
 pub fn dates_are_congruent()
     ensures replacing { λ _. ⌜ ((K : Kind ℕ) → ReplacingKeeps K) ⌝ }
     ensures linked { λ _. ⌜ ((K L : Kind ℕ) → LinkedDates K L) ⌝ }
-{
-}
+{}

@@ -16,8 +16,8 @@ module _ {D : Type 0} (dateOf : List ℕ → Option D) (width : ℕ) (sized : (b
   dated-wide : (bs : List ℕ) (d : D) → dateOf bs ≡ Some d → length bs ≡ width
   dated-wide bs d e =
       elim (cases-eq (length bs) width) [
-        inl same ↦ same
-      | inr other ↦ let none = sized bs other in let z : _≡_ {A = ℕ} 0 1 = cc in absurd (omega arith)
+        | inl same ↦ same
+        | inr other ↦ let none = sized bs other in let z : _≡_ {A = ℕ} 0 1 = cc in absurd (omega arith)
       ]
 
   module _ (bs : List ℕ) (d : D) (rest : List ℕ) (f : Front dateOf bs d rest) where
@@ -36,7 +36,7 @@ pub front-made : {D : Type 0} (dateOf : List ℕ → Option D) (bs : List ℕ) (
 front-made dateOf bs d m n same e = record {
   bytes = take m bs;
   is =
-    sym (ap (λ (x : List ℕ). take m bs ++ x) (take-all (length bs - n) (drop n bs) (omega (arith, length-drop n bs)))
-    ∙ ap (λ (k : ℕ). take m bs ++ drop k bs) (sym same) ∙ take-append-drop m bs);
+      sym (ap (λ (x : List ℕ). take m bs ++ x) (take-all (length bs - n) (drop n bs) (omega (arith, length-drop n bs)))
+      ∙ ap (λ (k : ℕ). take m bs ++ drop k bs) (sym same) ∙ take-append-drop m bs);
   dated = e;
 }

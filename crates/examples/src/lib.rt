@@ -7,5 +7,4 @@ mod dates_of_texts;
 // The examples hold of the definitions that the contracts cite.
 pub fn examples_hold()
     ensures { λ _. ⌜ DateExamples ⌝ }
-{
-}
+{}

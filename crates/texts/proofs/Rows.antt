@@ -6,13 +6,14 @@ use Prim.Native.Nat.{ℕ, _+_, _-_, _≤_, _<_}
 use native.Mathlib.Omega.{arith}
 use lib.ListN.{length, drop, getD, length-append, length-drop}
 use Rattle.std.proofs.shelf.Lists.{drop-more, drop-all}
+use Rattle.std.specs.declared.option.Option.the-variants.{Some, None}
 use Rattle.algebra.specs.declared.Operator.{Operator}
 use Rattle.algebra.specs.declared.Token.{Token}
 use Rattle.algebra.specs.declared.Token.the-variants.{Letter, Never, Joins, Unknown}
 use Rattle.algebra.specs.Terms.{Term, leaf, never, node}
 use Rattle.algebra.specs.Texts.{operatorByte, neverByte, eventByte, eventToken, textOf}
 use Rattle.algebra.proofs.Bytes.{Means, event-token-means, event-spelling}
-use Rattle.texts.specs.Spans.{Spans}
+use Rattle.texts.specs.Spans.{Spans, stillToCome}
 
 abbrev writes : List (Term ℕ) → List ℕ
 writes [] = []
@@ -27,10 +28,10 @@ abbrev pub Alike : ℕ → List ℕ → ℕ → List ℕ → Type 0
 Alike k bs k′ bs′ = (rest : List ℕ) → (Row k bs rest → Row k′ bs′ rest) × (Row k′ bs′ rest → Row k bs rest)
 
 -- the byte is an operator's, or that of a term by itself
-abbrev pub Joint : ℕ → Type 0
+abbrev Joint : ℕ → Type 0
 Joint b = (o : Operator) × (Joins o ≡ eventToken b)
 
-pub data Leaf (b : ℕ) : Type 0 where
+data Leaf (b : ℕ) : Type 0 where
   a-letter : (v : ℕ) → Letter v ≡ eventToken b → Leaf b
   a-never : Never ≡ eventToken b → Leaf b
 
@@ -62,7 +63,7 @@ joint-out b k bs rest h is (l ∷ [], len, e) = absurd (omega arith)
 joint-out b k bs rest h (o, is) (l ∷ r ∷ ts, len, e) =
     let m : b ≡ operatorByte o = meant (Joins o) b is in
     let tail : bs ≡ ((textOf l ++ textOf r) ++ writes ts) ++ rest =
-      e ∙ ap (λ (z : List ℕ). z ++ rest) (sym (append-assoc (textOf l) (textOf r) (writes ts))) in
+    e ∙ ap (λ (z : List ℕ). z ++ rest) (sym (append-assoc (textOf l) (textOf r) (writes ts))) in
     (node o l r ∷ ts, omega arith, cc)
 
 leaf-node : (b : ℕ) (o : Operator) → Leaf b → b ≡ operatorByte o → ⊥
@@ -100,14 +101,31 @@ module _ (k₀ : ℕ) (bs₀ : List ℕ) (text : List ℕ) (k i : ℕ) (some : 0
   at-byte rest =
       subst (λ (z : List ℕ). (Row k₀ bs₀ rest → Row k z rest) × (Row k z rest → Row k₀ bs₀ rest)) (drop-more text i 0 within) (inv rest)
 
-  pub alike-joint : Joint (getD text i 0) → Alike k₀ bs₀ (k + 1) (drop (i + 1) text)
+  alike-joint : Joint (getD text i 0) → Alike k₀ bs₀ (k + 1) (drop (i + 1) text)
   alike-joint is rest = (λ x. joint-in _ k _ rest some is (at-byte rest .0 x), λ x. at-byte rest .1 (joint-out _ k _ rest some is x))
 
-  pub alike-leaf : Leaf (getD text i 0) → Alike k₀ bs₀ (k - 1) (drop (i + 1) text)
+  alike-leaf : Leaf (getD text i 0) → Alike k₀ bs₀ (k - 1) (drop (i + 1) text)
   alike-leaf is rest = (λ x. leaf-in _ k _ rest some is (at-byte rest .0 x), λ x. at-byte rest .1 (leaf-out _ k _ rest some is x))
 
-  pub stop-unknown : Unknown ≡ eventToken (getD text i 0) → (rest : List ℕ) → Row k₀ bs₀ rest → ⊥
-  stop-unknown is rest x = unknown-none _ k _ rest some is (at-byte rest .0 x)
+  -- so many terms are still to come after the byte
+  pub alike-after : (t : Token ℕ) → t ≡ eventToken (getD text i 0) → (n : ℕ) → Some n ≡ stillToCome t k → Alike k₀ bs₀ n (drop (i + 1) text)
+  alike-after (Letter v) is n e = let m : n ≡ k - 1 = cc in subst (λ (x : ℕ). Alike k₀ bs₀ x (drop (i + 1) text)) (sym m) (alike-leaf (a-letter v is))
+  alike-after Never is n e = let m : n ≡ k - 1 = cc in subst (λ (x : ℕ). Alike k₀ bs₀ x (drop (i + 1) text)) (sym m) (alike-leaf (a-never is))
+  alike-after (Joins o) is n e = let m : n ≡ k + 1 = cc in subst (λ (x : ℕ). Alike k₀ bs₀ x (drop (i + 1) text)) (sym m) (alike-joint (o, is))
+  alike-after Unknown is n e = let z : _≡_ {A = ℕ} 0 1 = cc in absurd (omega arith)
+
+  -- no term stands where the byte is none
+  pub stop-unknown : (t : Token ℕ) → t ≡ eventToken (getD text i 0) → None ≡ stillToCome t k → (rest : List ℕ) → Row k₀ bs₀ rest → ⊥
+  stop-unknown (Letter v) is e rest x = let z : _≡_ {A = ℕ} 0 1 = cc in omega arith
+  stop-unknown Never is e rest x = let z : _≡_ {A = ℕ} 0 1 = cc in omega arith
+  stop-unknown (Joins o) is e rest x = let z : _≡_ {A = ℕ} 0 1 = cc in omega arith
+  stop-unknown Unknown is e rest x = unknown-none _ k _ rest some is (at-byte rest .0 x)
+
+pub after-small : (t : Token ℕ) (k n i : ℕ) → k ≤ i + 1 → Some n ≡ stillToCome t k → n ≤ i + 1 + 1
+after-small (Letter v) k n i h e = let m : n ≡ k - 1 = cc in omega arith
+after-small Never k n i h e = let m : n ≡ k - 1 = cc in omega arith
+after-small (Joins o) k n i h e = let m : n ≡ k + 1 = cc in omega arith
+after-small Unknown k n i h e = let z : _≡_ {A = ℕ} 0 1 = cc in absurd (omega arith)
 
 pub stop-end : (k₀ : ℕ) (bs₀ text : List ℕ) (k i : ℕ) → 0 < k → length text ≤ i → Alike k₀ bs₀ k (drop i text) → (rest : List ℕ) → Row k₀ bs₀ rest → ⊥
 stop-end k₀ bs₀ text k i some past inv rest x = end-none k rest some (subst (λ (z : List ℕ). Row k z rest) (drop-all i text past) (inv rest .0 x))

@@ -9,8 +9,7 @@ pub fn rules_keep_dates_of<D: Date>()
     ensures keeps { λ _. ⌜ SheetKeeps kind ⌝ }
     ensures ranks { λ _. ⌜ RanksDecide kind ⌝ }
     ensures reached { λ _. ⌜ ReachedKeeps kind ⌝ }
-{
-}
+{}
 
 // A derived text has the date of the text that it is derived from, under the dating.
 pub fn derivations_keep_dates_under<D: Date>(dating: &[D])

@@ -1,7 +1,6 @@
 // The date of a text: read from its end, with a stack of dates at the end of a work table.
 ghost use mathlib.Core.Path.{_≡_};
-ghost use mathlib.Core.List.{List};
-ghost use Prim.Native.Nat.{ℕ, _≤_};
+ghost use Prim.Native.Nat.{_<_, _≤_};
 ghost use lib.ListN.{length, drop};
 ghost use Rattle.std.specs.Orderings.{Decides};
 ghost use Rattle.std.specs.Vec.{refused};
@@ -43,22 +42,24 @@ fn join<D: Date>(operator: Operator, p: D, q: D) -> D
     ensures { λ r. ⌜ r ≡ joined kind operator p q ⌝ }
 {
     match operator {
-        Operator::Or => {
-            if p.no_later(q) { p } else { q }
-        }
-        Operator::And => {
-            if q.no_later(p) { p } else { q }
-        }
-        Operator::Before => {
-            if q.no_later(p) { D::never() } else { p }
-        }
-        Operator::Simultaneous => {
-            if p.no_later(q) && q.no_later(p) { p } else { D::never() }
-        }
-        Operator::Inclusive => {
-            if p.no_later(q) { p } else { D::never() }
-        }
+        Operator::Or => if p.no_later(q) { p } else { q },
+        Operator::And => if q.no_later(p) { p } else { q },
+        Operator::Before => if q.no_later(p) { D::never() } else { p },
+        Operator::Simultaneous => if p.no_later(q) && q.no_later(p) {
+            p
+        } else {
+            D::never()
+        },
+        Operator::Inclusive => if p.no_later(q) { p } else { D::never() },
     }
+}
+
+// The date of an event.
+fn date_of_event<D: Date>(dating: &[D], event: u8) -> D
+    requires { ⌜ event < length (now dating) ⌝ }
+    ensures { λ r. ⌜ r ≡ datingOf kind (now (dating .entry)) event ⌝ }
+{
+    dating[usize::from(event)]
 }
 
 // One token more: the stack is the end of `work` from `top` on, and the answer is where it begins now.
@@ -70,7 +71,7 @@ fn push_token<D: Date>(token: Token<u8>, dating: &[D], work: &mut [D], top: usiz
 {
     match token {
         Token::Letter(event) => {
-            work[top - 1] = dating[usize::from(event)];
+            work[top - 1] = date_of_event(dating, event);
             top - 1
         }
         Token::Never => {

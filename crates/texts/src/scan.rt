@@ -1,7 +1,7 @@
 // Reads the bytes of texts from the front: tokens, where a term ends, and whether bytes are a text.
 ghost use mathlib.Core.Path.{_≡_};
 ghost use mathlib.Core.List.{List, _++_};
-ghost use Prim.Native.Nat.{ℕ, _+_, _<_};
+ghost use Prim.Native.Nat.{ℕ, _+_, _^_, _<_};
 ghost use lib.Dec.{leb};
 ghost use lib.ListN.{drop};
 ghost use Rattle.std.specs.Options.{Cases};
@@ -9,7 +9,7 @@ ghost use Rattle.std.specs.Orderings.{Decides};
 ghost use Rattle.std.specs.shelf.Lists.{All};
 ghost use Rattle.algebra.specs.Terms.{Term};
 ghost use Rattle.algebra.specs.Texts.{IsText, Whole, eventToken, textOf};
-ghost use Rattle.texts.specs.Spans.{Spans};
+ghost use Rattle.texts.specs.Spans.{Spans, stillToCome};
 use algebra::Operator;
 use algebra::Token;
 
@@ -29,25 +29,34 @@ pub(crate) fn read_token(byte: u8) -> Token<u8>
     }
 }
 
+// How many terms are still to come after a token, where so many were before it.
+fn still_to_come(token: Token<u8>, terms: usize) -> Option<usize>
+    requires some { ⌜ 0 < terms ⌝ }
+    requires fits { ⌜ terms + 1 < 2 ^ 64 ⌝ }
+    ensures { λ r. ⌜ r ≡ stillToCome token terms ⌝ }
+{
+    match token {
+        Token::Joins(_) => Some(terms + 1),
+        Token::Letter(_) => Some(terms - 1),
+        Token::Never => Some(terms - 1),
+        Token::Unknown => None,
+    }
+}
+
 // Where the term at `place` ends, or `None` where no term stands there.
 pub fn term_end(bytes: &[u8], place: usize) -> Option<usize>
     ensures { λ r. ⌜ Cases r ((t : Term ℕ) (rest : List ℕ) → drop place (now (bytes .entry)) ≡ textOf t ++ rest → ⊥) (λ end. (t : Term ℕ) × Spans (now (bytes .entry)) place t end) ⌝ }
 {
-    let mut need = 1usize;
-    let mut i = place;
-    while need > 0 {
-        if i >= bytes.len() {
+    let mut terms = 1;
+    let mut end = place;
+    while terms > 0 {
+        if end >= bytes.len() {
             return None;
         }
-        match read_token(bytes[i]) {
-            Token::Joins(_) => need += 1,
-            Token::Letter(_) => need -= 1,
-            Token::Never => need -= 1,
-            Token::Unknown => return None,
-        }
-        i += 1;
+        terms = still_to_come(read_token(bytes[end]), terms)?;
+        end += 1;
     }
-    Some(i)
+    Some(end)
 }
 
 // Whether the byte is a letter past the first `events`.

@@ -14,10 +14,11 @@ use Rattle.texts.proofs.evaluation.date_of_text.Needs as need
 
 pub loop-i-holds : need.loop-i-holds
 loop-i-holds g c =
-    let K = g .D·Date .kind in
-    (omega arith,
-    drop-length (c .args .work .now)
-    ∙ sym (ap (λ (x : List ℕ). dates K (datingOf K (c .args .dating .now)) (terms eventToken x)) (drop-length (c .args .text .now))))
+    let K = g .D·Date .kind in (
+      omega arith,
+      drop-length (c .args .work .now)
+          ∙ sym (ap (λ (x : List ℕ). dates K (datingOf K (c .args .dating .now)) (terms eventToken x)) (drop-length (c .args .text .now))),
+    )
 
 pub push-token-top-requires : need.push-token-top-requires
 push-token-top-requires g c κs =
@@ -27,10 +28,10 @@ push-token-top-requires g c κs =
     let inv = c .loop-i .inv in
     record {
       room =
-        subst (λ (n : ℕ). Room (c .read-token .result) (c .loop-i .top) (length (c .loop-i .work)) n) (sym (c .pre .dates))
-        (room K (datingOf K (c .args .dating .now)) text (whole .term) (whole .written) (c .loop-i .i) (c .loop-i-test .taken) (c .loop-i .kept .i)
-        (c .loop-i .work) (c .loop-i .top) (inv .0) (inv .1) 24 (whole-below 24 text whole) (c .pre .text .short)
-        (omega (arith, c .loop-i .kept .work, c .pre .room)) (c .read-token .result) (c .read-token .ensures));
+          subst (λ (n : ℕ). Room (c .read-token .result) (c .loop-i .top) (length (c .loop-i .work)) n) (sym (c .pre .dates))
+          (room K (datingOf K (c .args .dating .now)) text (whole .term) (whole .written) (c .loop-i .i) (c .loop-i-test .taken) (c .loop-i .kept .i)
+          (c .loop-i .work) (c .loop-i .top) (inv .0) (inv .1) 24 (whole-below 24 text whole) (c .pre .text .short)
+          (omega (arith, c .loop-i .kept .work, c .pre .room)) (c .read-token .result) (c .read-token .ensures));
       within = inv .0;
     }
 
@@ -38,11 +39,12 @@ pub loop-i-again : need.loop-i-again
 loop-i-again g c =
     let K = g .D·Date .kind in
     let whole = c .pre .text .whole in
-    let inv = c .loop-i .inv in
-    (c .push-token-top .ensures .within,
-    c .push-token-top .ensures .stack
-    ∙ turned K (datingOf K (c .args .dating .now)) (c .args .text .now) (whole .term) (whole .written) (c .loop-i .i) (c .loop-i-test .taken) (c .loop-i .kept .i)
-    (c .loop-i .work) (c .loop-i .top) (inv .0) (inv .1) (c .read-token .result) (c .read-token .ensures))
+    let inv = c .loop-i .inv in (
+      c .push-token-top .ensures .within,
+      c .push-token-top .ensures .stack
+          ∙ turned K (datingOf K (c .args .dating .now)) (c .args .text .now) (whole .term) (whole .written) (c .loop-i .i) (c .loop-i-test .taken) (c .loop-i .kept .i)
+          (c .loop-i .work) (c .loop-i .top) (inv .0) (inv .1) (c .read-token .result) (c .read-token .ensures),
+    )
 
 pub index-work-top : need.index-work-top
 index-work-top g c =

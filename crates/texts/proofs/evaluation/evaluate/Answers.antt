@@ -33,8 +33,8 @@ returns-then-not-has-room g c =
     let ds = c .args .dating .now in
     let room = length (c .args .work .now) in
     let why =
-      small-work text ds room (c .is-text .ensures .0 (c .if-not-is-text .left)) (c .is-dating .ensures .0 (c .if-not-is-dating .left))
-      (λ h. both-ways _ (c .if-not-has-room .taken) (c .has-room .ensures .1 h)) in
+    small-work text ds room (c .is-text .ensures .0 (c .if-not-is-text .left)) (c .is-dating .ensures .0 (c .if-not-is-dating .left))
+    (λ h. both-ways _ (c .if-not-has-room .taken) (c .has-room .ensures .1 h)) in
     record { outcome = why; only = λ s h. one-date text ds room K (Err SmallWork) s why h; sized = refl; left = refl }
 
 pub date-of-text-requires : need.date-of-text-requires
@@ -51,7 +51,7 @@ returns g c =
     let ds = c .args .dating .now in
     let room = length (c .args .work .now) in
     let all =
-      granted text ds room (c .is-text .ensures .0 (c .if-not-is-text .left)) (c .is-dating .ensures .0 (c .if-not-is-dating .left))
-      (c .has-room .ensures .0 (c .if-not-has-room .left)) in
+    granted text ds room (c .is-text .ensures .0 (c .if-not-is-text .left)) (c .is-dating .ensures .0 (c .if-not-is-dating .left))
+    (c .has-room .ensures .0 (c .if-not-has-room .left)) in
     let why : Evaluated K text ds room (Ok (c .date-of-text .result)) = (all, c .date-of-text .ensures) in
     record { outcome = why; only = λ s h. one-date text ds room K (Ok (c .date-of-text .result)) s why h; sized = search needs; left = tt }

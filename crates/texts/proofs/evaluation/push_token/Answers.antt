@@ -3,7 +3,6 @@ use mathlib.Core.List.{List, _∷_}
 use Prim.Native.Nat.{ℕ, suc, _+_, _-_, _≤_, _<_}
 use native.Mathlib.Omega.{arith}
 use lib.ListN.{length, drop, length-set}
-use Rattle.std.proofs.shelf.Lists.{getD-default}
 use Rattle.algebra.specs.Terms.{datingOf, joined}
 use Rattle.algebra.specs.declared.Token.{Token}
 use Rattle.algebra.specs.declared.Token.the-variants.{Letter, Never, Joins}
@@ -18,15 +17,12 @@ returns-in-Letter g c =
     let ds = c .args .dating .now in
     let top = c .args .top in
     let room : Room (Letter (c .in-Letter .event)) top (length ws) (length ds) =
-      subst (λ (k : Token ℕ). Room k top (length ws) (length ds)) (c .in-Letter .is) (c .pre .room) in
-    let low : c .from .result < length ds = omega (arith, room .1, c .from .ensures) in
-    let e : c .index-dating-from .result ≡ datingOf K ds (c .in-Letter .event) =
-      c .index-dating-from .is ∙ getD-default ds (c .from .result) _ (K .never) low ∙ ap (datingOf K ds) (c .from .ensures) in
+    subst (λ (k : Token ℕ). Room k top (length ws) (length ds)) (c .in-Letter .is) (c .pre .room) in
     record {
       within = simp length-set (omega arith);
       stack =
-        pushed ws top (c .index-dating-from .result) (room .0) (c .pre .within) ∙ ap (λ x. x ∷ drop top ws) e
-        ∙ ap (λ (k : Token ℕ). stacked K (datingOf K ds) k (drop top ws)) (sym (c .in-Letter .is));
+          pushed ws top (c .date-of-event .result) (room .0) (c .pre .within) ∙ ap (λ x. x ∷ drop top ws) (c .date-of-event .ensures)
+          ∙ ap (λ (k : Token ℕ). stacked K (datingOf K ds) k (drop top ws)) (sym (c .in-Letter .is));
     }
 
 pub returns-in-Never : need.returns-in-Never
@@ -39,8 +35,8 @@ returns-in-Never g c =
     record {
       within = simp length-set (omega arith);
       stack =
-        pushed ws top (c .never .result) room (c .pre .within) ∙ ap (λ x. x ∷ drop top ws) (c .never .ensures)
-        ∙ ap (λ (k : Token ℕ). stacked K (datingOf K ds) k (drop top ws)) (sym (c .in-Never .is));
+          pushed ws top (c .never .result) room (c .pre .within) ∙ ap (λ x. x ∷ drop top ws) (c .never .ensures)
+          ∙ ap (λ (k : Token ℕ). stacked K (datingOf K ds) k (drop top ws)) (sym (c .in-Never .is));
     }
 
 pub returns-in-Joins : need.returns-in-Joins
@@ -57,8 +53,8 @@ returns-in-Joins g c =
     record {
       within = simp length-set (omega arith);
       stack =
-        written-top ws (top + 1) (c .join .result) (omega arith)
-        ∙ ap₂ (λ x k. x ∷ drop k ws) (c .join .ensures ∙ ap₂ (joined K o) (c .index-work-top .is) (c .index-work-top-in-Joins .is)) n
-        ∙ sym (ap (joinedTop K o) (top-two ws top p q two))
-        ∙ ap (λ (k : Token ℕ). stacked K (datingOf K ds) k (drop top ws)) (sym (c .in-Joins .is));
+          written-top ws (top + 1) (c .join .result) (omega arith)
+          ∙ ap₂ (λ x k. x ∷ drop k ws) (c .join .ensures ∙ ap₂ (joined K o) (c .index-work-top .is) (c .index-work-top-in-Joins .is)) n
+          ∙ sym (ap (joinedTop K o) (top-two ws top p q two))
+          ∙ ap (λ (k : Token ℕ). stacked K (datingOf K ds) k (drop top ws)) (sym (c .in-Joins .is));
     }

@@ -7,9 +7,10 @@ use Rattle.texts.proofs.scan.is_whole.Needs as need
 
 pub returns-then-end-bytes : need.returns-then-end-bytes
 returns-then-end-bytes c =
-    let found = c .in-Some .ensures tt in
-    (λ e. spans-whole _ _ (found .0) _ (found .1) (c .if-end-bytes .taken) (c .letters-below .ensures .0 e),
-    λ w. c .letters-below .ensures .1 (whole-below _ _ w))
+    let found = c .in-Some .ensures tt in (
+      λ e. spans-whole _ _ (found .0) _ (found .1) (c .if-end-bytes .taken) (c .letters-below .ensures .0 e),
+      λ w. c .letters-below .ensures .1 (whole-below _ _ w),
+    )
 
 pub returns-else-end-bytes : need.returns-else-end-bytes
 returns-else-end-bytes c =

@@ -4,10 +4,10 @@ use lib.ListN.{length, drop}
 use Rattle.texts.proofs.Rows.{Alike}
 use Rattle.texts.proofs.scan.term_end.Given as given
 
-abbrev pub Inv-loop-need : given.InvT-loop-need
-Inv-loop-need l =
-    (l .need ≤ l .i + 1) × (l .need ≡ 0 → l .i ≤ length (l .bytes))
-    × Alike 1 (drop (l .place) (l .bytes)) (l .need) (drop (l .i) (l .bytes))
+abbrev pub Inv-loop-terms : given.InvT-loop-terms
+Inv-loop-terms l =
+    (l .terms ≤ l .end + 1) × (l .terms ≡ 0 → l .end ≤ length (l .bytes))
+    × Alike 1 (drop (l .place) (l .bytes)) (l .terms) (drop (l .end) (l .bytes))
 
-abbrev pub μ-loop-need : given.MeasureT-loop-need
-μ-loop-need l = length (l .bytes) - l .i
+abbrev pub μ-loop-terms : given.MeasureT-loop-terms
+μ-loop-terms l = length (l .bytes) - l .end
