@@ -1,0 +1,10 @@
+pub mod Fronts
+pub mod Lengths
+pub mod Slots
+pub mod Progress
+pub mod Heads
+pub mod One
+pub mod Settled
+pub mod Letters
+pub mod Sole
+pub mod Meant

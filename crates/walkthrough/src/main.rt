@@ -1,0 +1,4 @@
+// Tells how a date of loss comes about.
+mod terms;
+
+fn main() {}
