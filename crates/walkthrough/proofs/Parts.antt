@@ -21,7 +21,7 @@ module _ (text : List ℕ) (place : ℕ) (t : Term ℕ) (end : ℕ) (s : Spans t
   part-text w =
       let part = take (end - place) (drop place text) in
       let low : All (λ b. b < 97 + 24) part =
-        all-take (λ b. b < 97 + 24) (end - place) (drop place text) (all-drop (λ b. b < 97 + 24) place text (whole-below 24 text (w .whole))) in
+      all-take (λ b. b < 97 + 24) (end - place) (drop place text) (all-drop (λ b. b < 97 + 24) place text (whole-below 24 text (w .whole))) in
       record {
         whole = record { term = t; written = part-is; letters = below-among 24 t (subst (λ (x : List ℕ). All (λ b. b < 97 + 24) x) part-is low) };
         short = omega (arith, ap length part-is, s .counted, s .within, w .short);

@@ -11,7 +11,12 @@ use texts::evaluation::evaluate;
 use texts::scan::term_end;
 
 // Where the term at the place ends, and its date under the dating. At every place of a text there is one.
-pub fn date_at<D: Date>(text: &[u8], place: usize, dating: &[D], work: &mut [D]) -> Option<(usize, D)>
+pub fn date_at<D: Date>(
+    text: &[u8],
+    place: usize,
+    dating: &[D],
+    work: &mut [D],
+) -> Option<(usize, D)>
     ensures told { λ r. ⌜ Told kind (now (dating .entry)) (now (text .entry)) place r ⌝ }
     ensures all { λ r. ⌜ (IsText (now (text .entry)) → place < length (now (text .entry)) → length (now (dating .entry)) ≡ 24 → 256 ≤ length (now (work .entry)) → isSome r ≡ true) ⌝ }
     ensures size { λ _. ⌜ length (now (work .exit)) ≡ length (now (work .entry)) ⌝ }

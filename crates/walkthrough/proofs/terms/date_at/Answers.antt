@@ -15,10 +15,10 @@ returns-in-Break-end g c =
     (record {
       told = tt;
       all = λ w low e wide.
-        let whole = w .whole in
-        let stands = every-place (whole .term) (c .args .place) (subst (λ (x : List ℕ). c .args .place < length x) (whole .written) low) in
-        absurd (c .in-Break-end .ensures tt (stands .term) (stands .rest)
-        (subst (λ (x : List ℕ). drop (c .args .place) x ≡ textOf (stands .term) ++ stands .rest) (sym (whole .written)) (stands .here)));
+          let whole = w .whole in
+          let stands = every-place (whole .term) (c .args .place) (subst (λ (x : List ℕ). c .args .place < length x) (whole .written) low) in
+          absurd (c .in-Break-end .ensures tt (stands .term) (stands .rest)
+          (subst (λ (x : List ℕ). drop (c .args .place) x ≡ textOf (stands .term) ++ stands .rest) (sym (whole .written)) (stands .here)));
       size = refl;
     })
 
@@ -26,9 +26,11 @@ pub returns-in-Ok : need.returns-in-Ok
 returns-in-Ok g c =
     let found = c .in-Continue-end .ensures tt in
     record {
-      told =
-        (found .0, found .1,
-        c .in-Ok .ensures tt .outcome .1 (found .0) (part-is (c .args .text .now) (c .args .place) (found .0) (c .in-Continue-end .end) (found .1)));
+      told = (
+        found .0,
+        found .1,
+        c .in-Ok .ensures tt .outcome .1 (found .0) (part-is (c .args .text .now) (c .args .place) (found .0) (c .in-Continue-end .end) (found .1)),
+      );
       all = λ w low e wide. refl;
       size = c .in-Ok .ensures tt .sized;
     }
@@ -39,7 +41,7 @@ returns-in-Err g c =
     record {
       told = tt;
       all = λ w low e wide.
-        absurd (c .in-Err .ensures tt .outcome .fails
-        (granted _ (c .args .dating .now) (length (c .args .work .now)) (part-text (c .args .text .now) (c .args .place) (found .0) (c .in-Continue-end .end) (found .1) w) e wide _));
+          absurd (c .in-Err .ensures tt .outcome .fails
+          (granted _ (c .args .dating .now) (length (c .args .work .now)) (part-text (c .args .text .now) (c .args .place) (found .0) (c .in-Continue-end .end) (found .1) w) e wide _));
       size = c .in-Err .ensures tt .sized;
     }
