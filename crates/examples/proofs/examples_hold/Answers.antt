@@ -1,14 +1,18 @@
 use mathlib.Core.Path.{refl}
+use Rattle.examples.proofs.TreeExamples.{tree-examples}
 use Rattle.examples.proofs.examples_hold.Needs as need
 
 pub returns : need.returns
 returns c = record {
-  pandTie = refl;
-  pandLate = refl;
-  pandEarly = refl;
-  beforeTie = refl;
-  beforeNever = refl;
-  shifts = refl;
-  causeOr = refl;
-  causeTie = refl;
+  dates = record {
+    pandTie = refl;
+    pandLate = refl;
+    pandEarly = refl;
+    beforeTie = refl;
+    beforeNever = refl;
+    shifts = refl;
+    causeOr = refl;
+    causeTie = refl;
+  };
+  trees = tree-examples;
 }

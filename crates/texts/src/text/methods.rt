@@ -9,13 +9,16 @@ ghost use Rattle.texts.specs.Held.{Added, used};
 use super::LIMIT;
 use super::Text;
 
+// The bytes of a text with no used place.
+const UNUSED: [u8; 511] = [b'N'; 511];
+
 impl Text {
     // A text with no byte yet, to be filled by `append`.
     pub fn empty() -> Text
         ensures { λ r. ⌜ used r ≡ [] ⌝ }
     {
         Text {
-            bytes: [b'N'; 511],
+            bytes: UNUSED,
             len: 0,
         }
     }
@@ -25,7 +28,7 @@ impl Text {
         ensures { λ r. ⌜ used r ≡ neverByte ∷ [] ⌝ }
     {
         Text {
-            bytes: [b'N'; 511],
+            bytes: UNUSED,
             len: 1,
         }
     }
