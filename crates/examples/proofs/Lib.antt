@@ -1,1 +1,3 @@
-mod TreeExamples
+pub mod TreeExamples
+pub mod StepExamples
+pub mod SequenceExamples

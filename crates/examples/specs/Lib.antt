@@ -1,2 +1,5 @@
 pub mod Dates
 pub mod Trees
+pub mod Steps
+pub mod Sequences
+pub mod Worked

@@ -145,7 +145,7 @@ of-one bs rest (t ∷ u ∷ ts, len, e) = absurd (omega arith)
 pub done : (bs text : List ℕ) (i : ℕ) → Alike 1 bs 0 (drop i text) → (t : Term ℕ) × (bs ≡ textOf t ++ drop i text)
 done bs text i inv = of-one bs (drop i text) (inv (drop i text) .1 ([], refl, refl))
 
-some-bytes : (t : Term ℕ) → 0 < length (textOf t)
+pub some-bytes : (t : Term ℕ) → 0 < length (textOf t)
 some-bytes (leaf n) = omega arith
 some-bytes never = omega arith
 some-bytes (node o l r) = omega arith

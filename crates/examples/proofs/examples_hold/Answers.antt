@@ -1,4 +1,6 @@
 use mathlib.Core.Path.{refl}
+use Rattle.examples.proofs.SequenceExamples.{sequence-examples}
+use Rattle.examples.proofs.StepExamples.{step-examples}
 use Rattle.examples.proofs.TreeExamples.{tree-examples}
 use Rattle.examples.proofs.examples_hold.Needs as need
 
@@ -15,4 +17,6 @@ returns c = record {
     causeTie = refl;
   };
   trees = tree-examples;
+  steps = step-examples;
+  sequences = sequence-examples;
 }

@@ -1,0 +1,10 @@
+pub mod Masks
+pub mod Rows
+pub mod Walks
+pub mod Dates
+pub mod Sequences
+pub mod Lines
+pub mod Scans
+pub mod Codes
+pub mod Closing
+pub mod Tables

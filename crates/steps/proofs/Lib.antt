@@ -1,0 +1,11 @@
+pub mod Taken
+pub mod Tables
+pub mod Fronts
+pub mod Letters
+pub mod Fields
+pub mod Spelt
+pub mod Merge
+pub mod Having
+pub mod Fitting
+pub mod Answering
+pub mod Running

@@ -1,0 +1,11 @@
+use Prim.Native.Nat.{ℕ, _-_, _<_}
+use native.Mathlib.Omega.{arith}
+use Rattle.algebra.specs.Rules.{sheet, lines}
+use Rattle.steps.proofs.Tables.{right-of, sheet-right}
+use Rattle.steps.proofs.rules.right.Needs as need
+
+pub returns : need.returns
+unfolding sheet lines
+returns c =
+    let h : c .args .rule - 1 < 42 = omega arith in
+    rw right-of (sheet-right (c .args .rule - 1) h)
