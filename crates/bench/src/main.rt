@@ -8,16 +8,18 @@ use std::io::Read;
 use std::str::from_utf8;
 
 // How much of a file is read.
-const MOST: usize = 60_000;
+const MOST: u64 = 60_000;
 
 // The first bytes of a file; one that cannot be read counts as empty.
-fn file(rt: &LibcRuntime, name: &str) -> io::Result<Vec<u8>> {
+fn file(rt: &LibcRuntime, name: &str) -> Vec<u8> {
     let mut bytes = Vec::new(rt.alloc());
     if let Ok(file) = File::open(rt, name) {
-        let mut front = file.take(MOST as u64);
-        front.read_to_end(&mut bytes)?;
+        let mut front = file.take(MOST);
+        if front.read_to_end(&mut bytes).is_err() {
+            return Vec::new(rt.alloc());
+        }
     }
-    Ok(bytes)
+    bytes
 }
 
 // The one line of a refusal.
@@ -63,8 +65,8 @@ fn tell_table(rt: &LibcRuntime, table: &Table) -> io::Result<()> {
 }
 
 fn main(rt: LibcRuntime) -> io::Result<()> {
-    let tree = file(&rt, "tree.bin")?;
-    let steps = file(&rt, "steps.bin")?;
+    let tree = file(&rt, "tree.bin");
+    let steps = file(&rt, "steps.bin");
     let mut table = Table::new();
     match derive(tree.as_slice(), steps.as_slice(), &mut table) {
         Ok(()) => tell_table(&rt, &table),
