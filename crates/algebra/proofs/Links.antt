@@ -11,7 +11,7 @@ use Rattle.algebra.specs.declared.Operator.{Operator}
 use Rattle.algebra.specs.declared.Operator.the-variants.{Or, And, Before, Simultaneous, Inclusive}
 use Rattle.algebra.proofs.Tests.{bool-ext}
 
-either : {D E : Type 0} (R : D → E → Type 0) (a b : Bool) → a ≡ b → (p : D) (p′ : E) (q : D) (q′ : E) → R p p′ → R q q′ → R (cond a p q) (cond b p′ q′)
+pub either : {D E : Type 0} (R : D → E → Type 0) (a b : Bool) → a ≡ b → (p : D) (p′ : E) (q : D) (q′ : E) → R p p′ → R q q′ → R (cond a p q) (cond b p′ q′)
 either R a b e p p′ q q′ h k =
     subst (λ (c : Bool). R (cond a p q) (cond c p′ q′)) e
     (elim a as (λ c. R (cond c p q) (cond c p′ q′)) [ true ↦ h | false ↦ k ])

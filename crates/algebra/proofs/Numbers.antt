@@ -5,7 +5,7 @@ use mathlib.Core.List.{List, [], _∷_, _++_}
 use Prim.Native.Nat.{ℕ, zero, suc}
 use lib.Dec.{T}
 use Rattle.algebra.specs.Kinds.{Kind, Same}
-use Rattle.algebra.specs.Links.{NumbersSpeak}
+use Rattle.algebra.specs.Links.{Link, NumbersSpeak}
 use Rattle.algebra.specs.Ranks.{ranks}
 use Rattle.algebra.specs.Terms.{datingOf}
 use Rattle.algebra.specs.Texts.{termOf}
@@ -13,7 +13,7 @@ use Rattle.algebra.proofs.Links.{linked}
 use Rattle.algebra.proofs.Ranks.{rank, Placed, here, there, Ranked, ranks-link}
 
 module _ {D : Type 0} (K : Kind D) where
-  abbrev pool : List D → List D
+  abbrev pub pool : List D → List D
   pool ds = ds ++ (K .never ∷ [])
 
   placed : (ds : List D) (v : ℕ) → Placed K (pool ds) (datingOf K ds v)
@@ -25,14 +25,20 @@ module _ {D : Type 0} (K : Kind D) where
   last [] = here K (K .never) []
   last (x ∷ ds) = there K x _ (pool ds) (last ds)
 
+  -- each date of the dating is linked to its rank
+  pub pool-link : (ds : List D) → Link K ranks (Ranked K (pool ds))
+  pool-link ds = ranks-link K (pool ds) (last ds)
+
+  pub ranked : (ds : List D) (v : ℕ) → Ranked K (pool ds) (datingOf K ds v) (rank K (pool ds) (datingOf K ds v))
+  ranked ds v = record { is = refl; placed = placed ds v }
+
   pub numbers-speak : (ds : List D) → NumbersSpeak K ds
   numbers-speak ds s t same =
-      let link = ranks-link K (pool ds) (last ds) in
+      let link = pool-link ds in
       let d = datingOf K ds in
       let e : ℕ → ℕ = λ v. rank K (pool ds) (d v) in
-      let each : (v : ℕ) → Ranked K (pool ds) (d v) (e v) = λ v. record { is = refl; placed = placed ds v } in
-      let a = linked K ranks (Ranked K (pool ds)) link d e each (termOf s) in
-      let b = linked K ranks (Ranked K (pool ds)) link d e each (termOf t) in
+      let a = linked K ranks (Ranked K (pool ds)) link d e (ranked ds) (termOf s) in
+      let b = linked K ranks (Ranked K (pool ds)) link d e (ranked ds) (termOf t) in
       let h = same ranks e in
       record {
         fore = subst T (sym (link .orders _ _ _ _ a b)) (h .fore);

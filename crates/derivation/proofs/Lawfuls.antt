@@ -1,12 +1,11 @@
 -- Every run is lawful, and so is every closing after it.
 -- Assumes nothing.
 use mathlib.Core.Path.{_≡_, refl, sym, ap, subst, _∙_}
-use mathlib.Core.Bool.{true, cond}
+use mathlib.Core.Bool.{true}
 use mathlib.Core.Logic.{_⊎_, inl, inr}
 use mathlib.Core.List.{List, [], _∷_}
 use Prim.Native.Nat.{ℕ, _<_, _≤_}
 use native.Mathlib.Omega.{arith}
-use lib.Dec.{eqb}
 use lib.ListN.{length}
 use Rattle.std.specs.shelf.Lists.{All}
 use Rattle.std.specs.declared.result.Result.{Result}
@@ -33,6 +32,7 @@ use Rattle.sequences.specs.declared.refusals.CloseRefusal.the-variants as close
 use Rattle.sequences.specs.declared.row.Factor.{Factor}
 use Rattle.sequences.specs.declared.row.Row.{Row}
 use Rattle.sequences.proofs.Closings.{one-rows, keeps-date, never-closes, refused-exactly}
+use Rattle.sequences.proofs.Only.{close-apart}
 use Rattle.steps.specs.declared.refusal.StepRefusal.{StepRefusal}
 use Rattle.steps.specs.declared.refusal.StepRefusal.the-variants as step
 use Rattle.derivation.specs.Model.{State, Answer, Opened, Stepped, ClosingAsks, RowsOf, Closed}
@@ -133,22 +133,12 @@ closed-impossible h s run old r new c =
         let f : Closed s old (Err close.ImpossibleSequence) new = subst (λ (x : Answer CloseRefusal). Closed s old x new) e w in
         absurd (f .0 .fails (λ x closes. no-rows (λ fs. Impossible (rowWith fs) → ⊥) x (one-rows (s .present) x [] closes (never-closes (s .present) n))))
 
-closeBack : ℕ → CloseRefusal
-closeBack n = cond (eqb n 21) close.NoTree (cond (eqb n 22) close.NoSum (cond (eqb n 23) close.TooMany close.ImpossibleSequence))
-
-close-back : (e : CloseRefusal) → closeBack (closeCode e) ≡ e
-unfolding closeBack
-close-back close.NoTree = refl
-close-back close.NoSum = refl
-close-back close.TooMany = refl
-close-back close.ImpossibleSequence = refl
-
 closed-one : (s : State) (old : List Row) (q r : Answer CloseRefusal) (a b : List Row) → Closed s old q a → Closed s old r b → (q ≡ r) × (a ≡ b)
 closed-one s old (Ok u) (Ok v) a b x y = (refl, x .1 .each ∙ one-rows (s .present) (x .1 .sequences) (y .1 .sequences) (x .1 .closes) (y .1 .closes) ∙ sym (y .1 .each))
 closed-one s old (Ok u) (Err f) a b x y = absurd (y .0 .fails (x .0 f))
 closed-one s old (Err e) (Ok v) a b x y = absurd (x .0 .fails (y .0 e))
 closed-one s old (Err e) (Err f) a b x y = (
-  ap Err (one-refusal {A = Unit {0}} closeCode (ClosingAsks s) (λ _. Unit {0}) (λ c d h. sym (close-back c) ∙ ap closeBack h ∙ close-back d) (λ g p q c d. refl) e f (x .0) (y .0)),
+  ap Err (one-refusal {A = Unit {0}} closeCode (ClosingAsks s) (λ _. Unit {0}) close-apart (λ g p q c d. refl) e f (x .0) (y .0)),
   x .1 ∙ sym (y .1),
 )
 

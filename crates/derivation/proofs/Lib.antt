@@ -5,3 +5,4 @@ pub mod Calls
 pub mod Closings
 pub mod Questions
 pub mod Walking
+pub mod Speaking

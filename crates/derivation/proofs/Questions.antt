@@ -1,13 +1,12 @@
 -- The answers to the questions that a bench is asked.
 -- Assumes nothing.
-use mathlib.Core.Path.{_≡_, refl, sym, ap, subst, _∙_}
+use mathlib.Core.Path.{_≡_, sym, subst, _∙_}
 use mathlib.Core.Bool.{Bool, true}
 use mathlib.Core.List.{List, _++_}
-use Prim.Native.Nat.{ℕ, _+_, _-_, _<_, _≤_}
+use Prim.Native.Nat.{ℕ, _<_, _≤_}
 use native.Mathlib.Omega.{arith}
 use denote.Ref.{RefT, now}
-use lib.ListN.{length, take, drop}
-use Rattle.std.proofs.shelf.Lists.{take-at}
+use lib.ListN.{length, drop}
 use Rattle.std.specs.declared.result.Result.{Result}
 use Rattle.std.specs.declared.result.Result.the-variants.{Ok, Err}
 use Rattle.algebra.specs.Kinds.{Kind, Same}
@@ -87,6 +86,3 @@ past-end n bs place w none h =
 
 pub spans-inside : (bs : List ℕ) (place : ℕ) (t : Term ℕ) (end : ℕ) → Spans bs place t end → place < length bs
 spans-inside bs place t end w = omega (arith, some-bytes t, w .counted, w .within)
-
-pub spans-part : (bs : List ℕ) (place : ℕ) (t : Term ℕ) (end : ℕ) → Spans bs place t end → take (end - place) (drop place bs) ≡ textOf t
-spans-part bs place t end w = ap (take (end - place)) (w .here) ∙ take-at (textOf t) (drop end bs) (end - place) (omega (arith, w .counted))

@@ -10,18 +10,16 @@ use lib.ListN.{length}
 use Rattle.std.specs.declared.result.Result.{Result}
 use Rattle.std.specs.declared.result.Result.the-variants.{Ok, Err}
 use Rattle.algebra.specs.Refusals.{Granted}
-use Rattle.algebra.proofs.Refusals.{one-refusal}
 use Rattle.trees.specs.Reading.{gives, refuses}
 use Rattle.trees.specs.Refusals.{treeCode}
 use Rattle.trees.specs.declared.refusal.TreeRefusal.{TreeRefusal}
 use Rattle.trees.specs.declared.refusal.TreeRefusal.the-variants as tree
 use Rattle.trees.proofs.One.{one-outcome}
 use Rattle.steps.specs.Records.{Request}
-use Rattle.steps.specs.Refusals.{stepCode}
-use Rattle.steps.specs.Stepping.{SuppliesLacked, StepAsks, StepMakes}
+use Rattle.steps.specs.Stepping.{SuppliesLacked}
 use Rattle.steps.specs.declared.refusal.StepRefusal.{StepRefusal}
 use Rattle.steps.specs.declared.refusal.StepRefusal.the-variants.{NoTree, Form, Supplies, Place, NoFit, TooLong}
-use Rattle.steps.proofs.Answering.{step-one}
+use Rattle.steps.proofs.Answering.{one-step-answer}
 use Rattle.steps.proofs.Fields.{says-one}
 use Rattle.derivation.specs.Model.{State, Answer, Opened, BenchAsks, Grantable, moved, Stepped}
 use Rattle.derivation.specs.Law.{Known, opening, stepping, Call, tree-bytes, step-bytes, asked, Happened, Run, begun, then}
@@ -38,21 +36,6 @@ tree-back tree.Input = refl
 tree-back tree.Dependent = refl
 tree-back tree.TooLong = refl
 tree-back tree.NoSource = refl
-
-stepBack : ℕ → StepRefusal
-stepBack n = cond (eqb n 11) NoTree (cond (eqb n 12) Form (cond (eqb n 13) Supplies (cond (eqb n 14) Place (cond (eqb n 15) NoFit TooLong))))
-
-step-back : (e : StepRefusal) → stepBack (stepCode e) ≡ e
-unfolding stepBack
-step-back NoTree = refl
-step-back Form = refl
-step-back Supplies = refl
-step-back Place = refl
-step-back NoFit = refl
-step-back TooLong = refl
-
-step-apart : (e f : StepRefusal) → stepCode e ≡ stepCode f → e ≡ f
-step-apart e f h = sym (step-back e) ∙ ap stepBack h ∙ step-back f
 
 -- OPENING
 
@@ -78,33 +61,18 @@ opened-one s bs (Err e) a b x y = x .1 ∙ sym (y .1)
 
 -- STEPS
 
--- what a bench asks for is what a step on its text asks for, besides the tree
-pub text-asks : (s : State) (bs : List ℕ) → Granted (BenchAsks s bs) → Granted (StepAsks (Unit {0}) (s .present) (s .events) bs)
-text-asks s bs g NoTree = tt
-text-asks s bs g Form = g Form
-text-asks s bs g Supplies = g Supplies
-text-asks s bs g Place = g Place
-text-asks s bs g NoFit = g NoFit
-text-asks s bs g TooLong = g TooLong
-
-pub bench-asks : (s : State) (bs : List ℕ) → s .opened ≡ true → Granted (StepAsks (Unit {0}) (s .present) (s .events) bs) → Granted (BenchAsks s bs)
-bench-asks s bs o g NoTree = o
-bench-asks s bs o g Form = g Form
-bench-asks s bs o g Supplies = g Supplies
-bench-asks s bs o g Place = g Place
-bench-asks s bs o g NoFit = g NoFit
-bench-asks s bs o g TooLong = g TooLong
-
 step-answer : (s : State) (bs : List ℕ) (q r : Answer StepRefusal) (a b : State) → Stepped s bs q a → Stepped s bs r b → q ≡ r
 step-answer s bs (Ok u) (Ok v) a b x y = refl
 step-answer s bs (Ok u) (Err f) a b x y = absurd (y .0 .fails (x .0 f))
 step-answer s bs (Err e) (Ok v) a b x y = absurd (x .0 .fails (y .0 e))
-step-answer s bs (Err e) (Err f) a b x y = ap Err (one-refusal {A = Unit {0}} stepCode (BenchAsks s bs) (λ _. Unit {0}) step-apart (λ g p q c d. refl) e f (x .0) (y .0))
+step-answer s bs (Err e) (Err f) a b x y =
+    let both = one-step-answer (s .opened ≡ true) (s .present) (s .events) bs (Err e) (Err f) (x .0) (y .0) in
+    let same : e ≡ f = cc in
+    ap Err same
 
 stepped-one : (s : State) (bs : List ℕ) (r : Answer StepRefusal) (a b : State) → Stepped s bs r a → Stepped s bs r b → a ≡ b
 stepped-one s bs (Ok u) a b x y =
-    let all = text-asks s bs (x .0) in
-    let both = step-one (s .present) (s .events) bs (Ok (a .present)) (Ok (b .present)) (all, x .1) (all, y .1) in
+    let both = one-step-answer (s .opened ≡ true) (s .present) (s .events) bs (Ok (a .present)) (Ok (b .present)) (x .0, x .1) (y .0, y .1) in
     let same : a .present ≡ b .present = cc in
     x .2 ∙ ap (moved s) same ∙ sym (y .2)
 stepped-one s bs (Err e) a b x y = x .1 ∙ sym (y .1)

@@ -15,6 +15,8 @@ use Rattle.algebra.specs.Texts.{textOf, textDate}
 use Rattle.texts.specs.Evaluation.{evaluationCode}
 use Rattle.texts.specs.declared.evaluation.EvaluationRefusal.{EvaluationRefusal}
 use Rattle.texts.specs.declared.evaluation.EvaluationRefusal.the-variants.{NoText, NoDating, SmallWork}
+use Rattle.sequences.specs.Dates.{tableDate}
+use Rattle.sequences.specs.declared.row.Row.{Row}
 use Rattle.steps.specs.Refusals.{stepCode}
 use Rattle.steps.specs.declared.refusal.StepRefusal.{StepRefusal}
 use Rattle.steps.specs.declared.refusal.StepRefusal.the-variants.{NoTree, Form, Supplies, Place, NoFit, TooLong}
@@ -34,6 +36,12 @@ TextDated K ds room text r = Answers evaluationCode (DatingAsks ds room) (λ p. 
 abbrev pub DatedAs : {D E : Type 0} → Kind D → List D → List ℕ → Result D E → Type 0
 DatedAs K ds text (Ok p) = Same K (textDate K (datingOf K ds) text) p
 DatedAs K ds text (Err e) = Unit {0}
+
+-- a text and a table that have the same date over every kind whose dates are numbers have it under the dates ds, of whatever kind
+abbrev pub TablesSpeak : {D : Type 0} → Kind D → List D → Type 0
+TablesSpeak K ds =
+    (text : List ℕ) (rows : List Row) → ((L : Kind ℕ) (d : ℕ → ℕ) → Same L (textDate L d text) (tableDate L d rows))
+    → Same K (textDate K (datingOf K ds) text) (tableDate K (datingOf K ds) rows)
 
 -- what handing out a term asks for: an open tree, and a place within the present text
 abbrev pub TermAsks : State → ℕ → StepRefusal → Type 0

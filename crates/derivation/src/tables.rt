@@ -4,7 +4,7 @@ ghost use Prim.Native.Nat.{ℕ};
 ghost use Rattle.std.specs.declared.result.Result.the-variants.{Ok};
 ghost use Rattle.sequences.specs.Tables.{TableDated, held};
 ghost use Rattle.sequences.specs.declared.row.Row.{Row};
-ghost use Rattle.derivation.specs.Dating.{DatedAs};
+ghost use Rattle.derivation.specs.Dating.{DatedAs, TablesSpeak};
 ghost use Rattle.derivation.specs.Law.{Known, Run, TreeText};
 ghost use Rattle.derivation.specs.Model.{Closed, State};
 use dates::Date;
@@ -18,4 +18,12 @@ pub fn table_date<D: Date>(table: &Table, dating: &[D]) -> Result<D, TableRefusa
     ensures law { λ r. ⌜ ((h : List Known) (s : State) (old : List Row) (text : List ℕ) → Run h s → Closed s old (Ok tt) (held (now (table .entry))) → TreeText h text → DatedAs kind (now (dating .entry)) text r) ⌝ }
 {
     table.date(dating)
+}
+
+// A text and a table that have the same date over every kind whose dates are numbers have it under the dating, of
+// whatever kind.
+pub fn numbers_speak_for_tables<D: Date>(dating: &[D])
+    ensures { λ _. ⌜ TablesSpeak kind (now (dating .entry)) ⌝ }
+{
+    let _ = dating;
 }

@@ -21,7 +21,7 @@ use Rattle.sequences.specs.declared.refusals.LineRefusal.the-variants.{SmallBu
 use Rattle.sequences.specs.declared.refusals.TableRefusal.{TableRefusal}
 use Rattle.sequences.specs.declared.refusals.TableRefusal.the-variants.{NoDating}
 
-close-apart : (e f : CloseRefusal) → closeCode e ≡ closeCode f → e ≡ f
+pub close-apart : (e f : CloseRefusal) → closeCode e ≡ closeCode f → e ≡ f
 close-apart NoTree NoTree h = refl
 close-apart NoTree NoSum h = absurd (omega arith)
 close-apart NoTree TooMany h = absurd (omega arith)

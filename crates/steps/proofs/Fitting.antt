@@ -21,7 +21,7 @@ use Rattle.algebra.specs.Steps.{Step, Derived}
 use Rattle.algebra.specs.declared.Variable.{Variable}
 use Rattle.algebra.proofs.Bytes.{one-text, same-term, puts-terms}
 use Rattle.algebra.proofs.Derived.{steps-derive}
-use Rattle.texts.proofs.Letters.{among-below, below-among, whole-below}
+use Rattle.texts.proofs.Letters.{Below, all-left, all-right, among-below, below-among, whole-below}
 use Rattle.steps.specs.Records.{Request, WholeTerm, suppliedFor}
 use Rattle.steps.specs.Stepping.{Fits, SuppliesLacked, Spells, StepsOn, oldOf, newOf}
 use Rattle.steps.proofs.Taken.{same-letter}
@@ -84,24 +84,13 @@ spelt-among : (n : ℕ) (o : Option (List ℕ)) (t : Term ℕ) → isSome o ≡ 
 spelt-among n None t h w s = let z : _≡_ {A = ℕ} 0 1 = cc in absurd (omega arith)
 spelt-among n (Some b) t h w s = subst (Among n) (same-term (w .term) t (sym (w .written) ∙ s)) (w .letters)
 
-abbrev Below : ℕ → List ℕ → Type 0
-Below n bs = All (λ b. b < 97 + n) bs
-
-all-front : (n : ℕ) (xs ys : List ℕ) → Below n (xs ++ ys) → Below n xs
-all-front n [] ys h = tt
-all-front n (x ∷ xs) ys h = (h .0, all-front n xs ys (h .1))
-
-all-back : (n : ℕ) (xs ys : List ℕ) → Below n (xs ++ ys) → Below n ys
-all-back n [] ys h = h
-all-back n (x ∷ xs) ys h = all-back n xs ys (h .1)
-
 below-new : (n : ℕ) (old : List ℕ) (q : Request) (new : List ℕ) → SuppliesLacked q → ((v : Variable) → WholeTerm n (suppliedFor q v)) → Fits old q new → Below n old → Below n new
 below-new n old q new supplies whole f b =
     let σ = f .choice in
     let P : ℕ → Type 0 = λ x. x < 97 + n in
     let found = textOf (inst σ (oldOf q)) in
     let here : Below n (found ++ f .rest) = subst (Below n) (f .here) (all-drop P (q .place) old b) in
-    let among = below-among n (inst σ (oldOf q)) (all-front n found (f .rest) here) in
+    let among = below-among n (inst σ (oldOf q)) (all-left n found (f .rest) here) in
     let letters : (v : Variable) → has v (newOf q) ≡ true → Among n (σ v) = λ v h.
     elim (cases-bool (has v (oldOf q))) [
       | inl k ↦ among-letter n σ (oldOf q) among v k
@@ -110,7 +99,7 @@ below-new n old q new supplies whole f b =
     let put = among-below n (inst σ (newOf q)) (inst-among n σ (newOf q) letters) in
     subst (Below n) (sym (f .made))
     (all-append P (take (q .place) old) (textOf (inst σ (newOf q)) ++ f .rest) (all-take P (q .place) old b)
-    (all-append P (textOf (inst σ (newOf q))) (f .rest) put (all-back n found (f .rest) here)))
+    (all-append P (textOf (inst σ (newOf q))) (f .rest) put (all-right n found (f .rest) here)))
 
 -- one step of the sheet
 module _ (old : List ℕ) (q : Request) (new : List ℕ) (number : (1 ≤ q .rule) × (q .rule ≤ 42)) (inside : q .place < length old) (f : Fits old q new) where

@@ -14,7 +14,8 @@ use Rattle.algebra.specs.Texts.{operatorByte, textOf, Whole}
 use Rattle.algebra.proofs.Bytes.{one-text}
 use Rattle.texts.specs.Spans.{Spans}
 
-abbrev Below : ℕ → List ℕ → Type 0
+-- every byte is below that of event n
+abbrev pub Below : ℕ → List ℕ → Type 0
 Below n bs = All (λ b. b < 97 + n) bs
 
 operator-low : (o : Operator) → operatorByte o < 97
@@ -24,11 +25,11 @@ operator-low Before = omega arith
 operator-low Simultaneous = omega arith
 operator-low Inclusive = omega arith
 
-all-left : (n : ℕ) (xs ys : List ℕ) → Below n (xs ++ ys) → Below n xs
+pub all-left : (n : ℕ) (xs ys : List ℕ) → Below n (xs ++ ys) → Below n xs
 all-left n [] ys h = tt
 all-left n (x ∷ xs) ys h = (h .0, all-left n xs ys (h .1))
 
-all-right : (n : ℕ) (xs ys : List ℕ) → Below n (xs ++ ys) → Below n ys
+pub all-right : (n : ℕ) (xs ys : List ℕ) → Below n (xs ++ ys) → Below n ys
 all-right n [] ys h = h
 all-right n (x ∷ xs) ys h = all-right n xs ys (h .1)
 

@@ -4,8 +4,8 @@ use mathlib.Core.Path.{_≡_, refl, sym, ap, subst, _∙_}
 use mathlib.Core.List.{List, [], _∷_, _++_, append-assoc, append-nil}
 use Prim.Native.Nat.{ℕ, _+_, _-_, _≤_, _<_}
 use native.Mathlib.Omega.{arith}
-use lib.ListN.{length, drop, getD, length-append, length-drop}
-use Rattle.std.proofs.shelf.Lists.{drop-more, drop-all}
+use lib.ListN.{length, take, drop, getD, length-append, length-drop}
+use Rattle.std.proofs.shelf.Lists.{drop-more, drop-all, take-at}
 use Rattle.std.specs.declared.option.Option.the-variants.{Some, None}
 use Rattle.algebra.specs.declared.Operator.{Operator}
 use Rattle.algebra.specs.declared.Token.{Token}
@@ -156,3 +156,7 @@ spans bs place end t h is = record {
   counted = omega (arith, some-bytes t, ap length is, length-append (textOf t) (drop end bs), length-drop place bs, length-drop end bs);
   within = h;
 }
+
+-- the bytes of the term that stands at a place
+pub spans-part : (bs : List ℕ) (place : ℕ) (t : Term ℕ) (end : ℕ) → Spans bs place t end → take (end - place) (drop place bs) ≡ textOf t
+spans-part bs place t end s = ap (take (end - place)) (s .here) ∙ take-at (textOf t) (drop end bs) (end - place) (omega (arith, s .counted))

@@ -6,7 +6,8 @@ use lib.ListN.{length, drop}
 use Rattle.algebra.specs.Texts.{textOf}
 use Rattle.algebra.proofs.Bytes.{every-place}
 use Rattle.texts.proofs.Evaluations.{granted}
-use Rattle.walkthrough.proofs.Parts.{part-is, part-text}
+use Rattle.texts.proofs.Rows.{spans-part}
+use Rattle.walkthrough.proofs.Parts.{part-text}
 use Rattle.walkthrough.proofs.terms.date_at.Needs as need
 
 pub returns-in-Break-end : need.returns-in-Break-end
@@ -29,7 +30,7 @@ returns-in-Ok g c =
       told = (
         found .0,
         found .1,
-        c .in-Ok .ensures tt .outcome .1 (found .0) (part-is (c .args .text .now) (c .args .place) (found .0) (c .in-Continue-end .end) (found .1)),
+        c .in-Ok .ensures tt .outcome .1 (found .0) (spans-part (c .args .text .now) (c .args .place) (found .0) (c .in-Continue-end .end) (found .1)),
       );
       all = λ w low e wide. refl;
       size = c .in-Ok .ensures tt .sized;

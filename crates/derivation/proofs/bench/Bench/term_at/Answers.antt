@@ -8,7 +8,8 @@ use Rattle.algebra.specs.Texts.{textOf}
 use Rattle.texts.specs.Held.{used}
 use Rattle.texts.specs.Spans.{Spans}
 use Rattle.derivation.specs.Views.{stateOf}
-use Rattle.derivation.proofs.Questions.{term-asked, no-place, past-end, spans-inside, spans-part}
+use Rattle.texts.proofs.Rows.{spans-part}
+use Rattle.derivation.proofs.Questions.{term-asked, no-place, past-end, spans-inside}
 use Rattle.derivation.proofs.bench.Bench.term_at.Needs as need
 
 pub returns-in-Some : need.returns-in-Some
