@@ -101,7 +101,7 @@ fn date_of_text<D: Date>(text: &[u8], dating: &[D], work: &mut [D]) -> D
 }
 
 // Whether there are exactly 24 dates.
-fn is_dating<D: Date>(dating: &[D]) -> bool
+pub fn is_dating<D: Date>(dating: &[D]) -> bool
     ensures { λ r. ⌜ Decides r (length (now (dating .entry)) ≡ 24) ⌝ }
 {
     dating.len() == 24

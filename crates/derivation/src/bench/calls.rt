@@ -1,11 +1,12 @@
 // The calls of a bench.
 ghost use mathlib.Core.Path.{_≡_};
 ghost use mathlib.Core.List.{List, [], _∷_};
-ghost use Rattle.std.specs.Vec.{refused};
+ghost use Rattle.std.specs.Vec.{made, refused};
 ghost use Rattle.derivation.specs.Law.{Known, Lawful, Run, closing, going, opening, stepping};
 ghost use Rattle.derivation.specs.Model.{Closed, Opened, Stepped, fresh};
 ghost use Rattle.sequences.specs.Tables.{held};
-ghost use Rattle.derivation.specs.Views.{stateOf};
+ghost use Rattle.derivation.specs.Views.{openTree, stateOf};
+ghost use Rattle.trees.specs.Means.{Means};
 use super::Bench;
 use sequences::refusals::CloseRefusal;
 use sequences::table::Table;
@@ -29,9 +30,10 @@ impl Bench {
         }
     }
 
-    // Opens a tree.
+    // Opens a tree. Its source text is the one that its gates and triggers define.
     pub fn open(&mut self, tree: &[u8]) -> Result<(), TreeRefusal>
         ensures outcome { λ r. ⌜ Opened (stateOf (now (self .entry))) (now (tree .entry)) r (stateOf (now (self .exit))) ⌝ }
+        ensures meaning { λ r. ⌜ made r (λ _. Means (now (tree .entry)) (openTree (now (self .exit)))) ⌝ }
         ensures law { λ r. ⌜ ((h : List Known) → Run h (stateOf (now (self .entry))) → Lawful (opening (now (tree .entry)) r ∷ h) (stateOf (now (self .exit))) going) ⌝ }
     {
         let read = read_tree(tree)?;

@@ -1,7 +1,6 @@
 // The date of a table under a dating.
 ghost use mathlib.Core.Path.{_≡_};
 ghost use lib.ListN.{length};
-ghost use Rattle.std.specs.Orderings.{Decides};
 ghost use Rattle.std.specs.Vec.{made};
 ghost use Rattle.std.specs.declared.result.Result.{Result};
 ghost use Rattle.algebra.specs.Terms.{datingOf};
@@ -12,13 +11,7 @@ use super::Table;
 use crate::dating::earlier_of;
 use crate::refusals::TableRefusal;
 use dates::Date;
-
-// Whether there are exactly 24 dates.
-fn is_dating<D: Date>(dating: &[D]) -> bool
-    ensures { λ r. ⌜ Decides r (length (now (dating .entry)) ≡ 24) ⌝ }
-{
-    dating.len() == 24
-}
+use texts::evaluation::is_dating;
 
 impl Table {
     // The earliest of the rows' dates, the first such row's, and never if there are no rows.

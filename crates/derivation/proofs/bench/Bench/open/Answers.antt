@@ -25,7 +25,7 @@ returns-in-Break-read c =
     let p = err-from-errBy (c .from-residual .result) (c .from-residual .ensures .1) in
     let o : Opened s bs (Err (p .0)) s =
     (subst (λ (e : TreeRefusal). Outcome bs (refuses (treeCode e))) (sym (p .2)) (c .in-Break-read .ensures tt .outcome), refl) in
-    rw (p .1) (record { outcome = o; law = law-open s s bs (Err (p .0)) o })
+    rw (p .1) (record { outcome = o; meaning = tt; law = law-open s s bs (Err (p .0)) o })
 
 pub ghost-self : need.ghost-self
 ghost-self c =
@@ -54,4 +54,4 @@ returns c =
     let t = c .in-Continue-read .read in
     let s′ = stands true (t .events) (t .source) (t .source) in
     let o : Opened s bs (Ok tt) s′ = (c .in-Continue-read .ensures tt .outcome, refl, refl) in
-    record { outcome = o; law = law-open s s′ bs (Ok tt) o }
+    record { outcome = o; meaning = c .in-Continue-read .ensures tt .meaning; law = law-open s s′ bs (Ok tt) o }
