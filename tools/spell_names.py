@@ -15,6 +15,8 @@ import re
 import sys
 
 DELIMITED = r"[^\s(){};,.@\"«»⌜⌝\[\]]+"
+# in code a colon may stand right behind a name
+DELIMITED_IN_CODE = r"[^\s(){};,.@\"«»⌜⌝\[\]:]+"
 DECLARATION = re.compile(
     rf"^ *(?:abbrev +)?(?:pub +)?(?:abbrev +)?(?:(?:record|data) +)?(?:pub +)?({DELIMITED})(?= *[({{:]| +[({{:])[^=≡]*?:(?!:)"
 )
@@ -69,6 +71,7 @@ def imported(text):
 
 
 TOKEN = re.compile(rf"(\.?)({DELIMITED})")
+TOKEN_IN_CODE = re.compile(rf"(\.?)({DELIMITED_IN_CODE})")
 
 
 def turned(path, text, table):
@@ -100,7 +103,7 @@ def turned(path, text, table):
         if line.lstrip().startswith("//"):
             lines.append(line)
         else:
-            lines.append(TOKEN.sub(one, line))
+            lines.append(TOKEN_IN_CODE.sub(one, line))
     return "\n".join(lines)
 
 

@@ -13,7 +13,7 @@ pub trait Date: Copy {
     ghost kind: { Kind Self };
 
     // the date of a byte string, if it has one
-    ghost dateOf: { List ℕ → Option Self };
+    ghost date_of: { List ℕ → Option Self };
 
     // how many bytes a date has
     ghost width: { ℕ };

@@ -20,8 +20,8 @@ pub struct Bench {
     source: Text,
     present: Text,
     ghost few: { events ≤ 24 },
-    ghost sourceWhole: { ∥ Whole events (used source) ∥₁ },
-    ghost presentWhole: { ∥ Whole events (used present) ∥₁ },
+    ghost source_whole: { ∥ Whole events (used source) ∥₁ },
+    ghost present_whole: { ∥ Whole events (used present) ∥₁ },
     ghost reached: { ∥ Derived (used source) (used present) ∥₁ },
     ghost ran: { ∥ ((h : List Known) × Run h (stands opened events source present)) ∥₁ },
 }
