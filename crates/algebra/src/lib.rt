@@ -1,4 +1,6 @@
 // The algebra of dates: what the operators of a term are, what the bytes of a text are, and the theorems about both.
+#![tactic(auto)]
+
 ghost use Rattle.std.specs.Prelude.{ℕ};
 ghost use Rattle.algebra.specs.Kinds.{Kind};
 ghost use Rattle.algebra.specs.Links.{LinkedDates};

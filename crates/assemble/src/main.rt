@@ -1,4 +1,6 @@
 // Reads a tree and steps written by hand, and writes their bytes.
+#![tactic(auto)]
+
 use job::{Job, LineFault};
 use notation::words::split_words;
 use std::{env, fs, io};

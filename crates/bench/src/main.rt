@@ -1,4 +1,6 @@
 // Reads a tree and steps from two files, and prints the cut sequences left, or why there are none.
+#![tactic(auto)]
+
 use derivation::job::{JobFault, derive};
 use sequences::table::Table;
 use std::fs::File;

@@ -1,4 +1,6 @@
 // Kinds of date: what a date means and the laws of its order, as a trait, and three kinds.
+#![tactic(auto)]
+
 ghost use Rattle.std.specs.Prelude.{◌≡◌, ℕ, List, length, None, Option, ◌≢◌};
 ghost use Rattle.algebra.specs.Kinds.{Kind};
 ghost use Rattle.dates.specs.Causes.{cause_kind, cause_of, rank_of};

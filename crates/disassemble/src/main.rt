@@ -1,4 +1,6 @@
 // Reads the bytes of a tree and of steps, and prints them as lines that can be read and assembled again.
+#![tactic(auto)]
+
 use assembly::tree_bytes::{Layout, read_layout};
 use notation::records::record_line;
 use notation::steps::step_line;

@@ -1,4 +1,6 @@
 // Worked examples: those that are computed from the definitions, and those that are run.
+#![tactic(auto)]
+
 ghost use Rattle.examples.specs.Worked.{WorkedExamples};
 
 #[cfg(test)]

@@ -1,4 +1,6 @@
 // The readable form of trees and steps: words, and what they say.
+#![tactic(auto)]
+
 pub mod inputs;
 pub mod numbers;
 pub mod records;

@@ -1,4 +1,6 @@
 // Steps: the records that ask for them, the rule sheet in code, matching, and rewriting.
+#![tactic(auto)]
+
 pub mod binding;
 pub mod file;
 mod matching;

@@ -1,4 +1,6 @@
 // Texts: where a term ends, whether bytes are a text, and the date of a text.
+#![tactic(auto)]
+
 pub mod derivations;
 pub mod evaluation;
 pub mod scan;

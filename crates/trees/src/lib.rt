@@ -1,4 +1,6 @@
 // Fault trees: from the bytes of a tree to its source text.
+#![tactic(auto)]
+
 mod inputs;
 mod join;
 pub mod reader;

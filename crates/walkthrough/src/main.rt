@@ -1,4 +1,6 @@
 // Tells how a date of loss comes about: from a tree and a log of failures, term by term.
+#![tactic(auto)]
+
 use dates::{Date, Tick};
 use failure_log::{Entry, Log, LogRefusal};
 use holds::drop_under_hold;
