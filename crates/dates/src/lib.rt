@@ -40,7 +40,7 @@ pub trait Date: Copy {
 
 // The date at the front of the bytes, and the bytes after it.
 pub fn read_front<D: Date>(bytes: &[u8]) -> Option<(D, &[u8])>
-    ensures { FrontOf date_of bytes.now result }
+    ensures { FrontOf D.date_of bytes.now result }
 {
     let width = D::byte_count();
     if bytes.len() < width {
