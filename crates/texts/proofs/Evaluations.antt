@@ -1,6 +1,6 @@
 -- Each way that an evaluation can go, and that it can go one way only.
 -- Assumes nothing.
-use Rattle.std.proofs.Common.{◌≡◌, ℕ, ◌<◌, ◌≤◌, List, length, Ok, Err, Result, sym, refl, ◌∙◌, arith}
+use Rattle.std.proofs.Common.{◌≡◌, ℕ, ◌<◌, ◌≤◌, List, length, Result, sym, refl, ◌∙◌, arith}
 use Rattle.algebra.specs.Kinds.{Kind}
 use Rattle.algebra.specs.Refusals.{Refused, Granted}
 use Rattle.algebra.specs.Texts.{IsText}

@@ -1,7 +1,8 @@
 -- The letters of a term by the bytes of its text, and whole terms.
 -- Assumes nothing.
-use Rattle.std.proofs.Common.{◌≡◌, ℕ, ◌+◌, ◌-◌, ◌<◌, ◌≤◌, List, [], ◌∷◌, ◌++◌, length, drop, All, sym, refl, ap, ◌∙◌, subst, append-nil, arith, length-drop}
-use Rattle.std.proofs.lemmas.List.Elements.{All-append}
+use Rattle.std.proofs.Common.{◌≡◌, ℕ, ◌+◌, ◌<◌, ◌≤◌, List, [], ◌∷◌, ◌++◌, length, take, drop, All, sym, refl, ap, ◌∙◌, subst, append-nil, arith, length-drop}
+use Rattle.std.proofs.lemmas.List.{take_at, drop_at}
+use Rattle.std.proofs.lemmas.List.Elements.{All-nil, All-cons, All-head, All-tail, All-same, All-take, All-drop, All-append}
 use Rattle.algebra.specs.declared.Operator.{Operator}
 use Rattle.algebra.specs.declared.Operator.TheVariants.{Or, And, Before, Simultaneous, Inclusive}
 use Rattle.algebra.specs.Terms.{Term, leaf, never, node, Among}
@@ -21,24 +22,31 @@ operator_low Simultaneous = omega arith
 operator_low Inclusive = omega arith
 
 pub all_left : (n : ℕ) (xs ys : List ℕ) → Below n (xs ++ ys) → Below n xs
-all_left n [] ys h = tt
-all_left n (x ∷ xs) ys h = (h.0, all_left n xs ys h.1)
+all_left n xs ys h =
+    All-same (λ b. b < 97 + n) xs (take (length xs) (xs ++ ys)) (sym (take_at xs ys (length xs) refl))
+    (All-take (λ b. b < 97 + n) (length xs) (xs ++ ys) h)
 
 pub all_right : (n : ℕ) (xs ys : List ℕ) → Below n (xs ++ ys) → Below n ys
-all_right n [] ys h = h
-all_right n (x ∷ xs) ys h = all_right n xs ys h.1
+all_right n xs ys h =
+    All-same (λ b. b < 97 + n) ys (drop (length xs) (xs ++ ys)) (sym (drop_at xs ys (length xs) refl))
+    (All-drop (λ b. b < 97 + n) (length xs) (xs ++ ys) h)
+
+one_below : (n b : ℕ) → b < 97 + n → Below n (b ∷ [])
+one_below n b h = All-cons (λ b. b < 97 + n) b [] h (All-nil (λ b. b < 97 + n))
 
 pub among_below : (n : ℕ) (t : Term ℕ) → Among n t → Below n (text_of t)
-among_below n (leaf v) h = (omega arith, tt)
-among_below n never h = (omega arith, tt)
+among_below n (leaf v) h = one_below n (97 + v) (omega arith)
+among_below n never h = one_below n 78 (omega arith)
 among_below n (node o l r) h =
-    (omega (arith, operator_low o), All-append (λ b. b < 97 + n) (text_of l) (text_of r) (among_below n l h.0) (among_below n r h.1))
+    All-cons (λ b. b < 97 + n) (operator_byte o) (text_of l ++ text_of r) (omega (arith, operator_low o))
+    (All-append (λ b. b < 97 + n) (text_of l) (text_of r) (among_below n l h.0) (among_below n r h.1))
 
 pub below_among : (n : ℕ) (t : Term ℕ) → Below n (text_of t) → Among n t
-below_among n (leaf v) h = omega (arith, h.0)
+below_among n (leaf v) h = let low = All-head (λ b. b < 97 + n) (97 + v) [] h in omega arith
 below_among n never h = tt
 below_among n (node o l r) h =
-    (below_among n l (all_left n (text_of l) (text_of r) h.1), below_among n r (all_right n (text_of l) (text_of r) h.1))
+    let sides = All-tail (λ b. b < 97 + n) (operator_byte o) (text_of l ++ text_of r) h in
+    (below_among n l (all_left n (text_of l) (text_of r) sides), below_among n r (all_right n (text_of l) (text_of r) sides))
 
 -- the term that spans all the bytes
 pub spans_whole : (n : ℕ) (bs : List ℕ) (t : Term ℕ) (end : ℕ) → Spans bs 0 t end → end ≡ length bs → Below n bs → Whole n bs

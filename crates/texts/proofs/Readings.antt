@@ -2,15 +2,14 @@
 -- Assumes nothing.
 use Rattle.std.proofs.Common.{◌≡◌, ℕ, zero, suc, ◌+◌, ◌-◌, ◌<◌, ◌≤◌, List, [], ◌∷◌, length, get_or, drop, All, sym, refl, ap, ◌∙◌, subst, arith, length-drop, drop-cons}
 use Rattle.std.proofs.lemmas.List.Elements.{All-get_or}
-use Rattle.algebra.specs.declared.Operator.{Operator}
 use Rattle.algebra.specs.declared.Token.{Token}
 use Rattle.algebra.specs.declared.Token.TheVariants.{Letter, Never, Joins, Unknown}
 use Rattle.algebra.specs.Kinds.{Kind}
-use Rattle.algebra.specs.Terms.{Term, leaf, never, node, date}
-use Rattle.algebra.specs.Texts.{Read, end, bad, on, paired, front, terms, event_byte, event_token, text_of}
-use Rattle.algebra.proofs.Bytes.{Means, event_token_means, event_spelling}
+use Rattle.algebra.specs.Terms.{Term, date}
+use Rattle.algebra.specs.Texts.{Read, end, bad, on, front, terms, event_byte, event_token, text_of}
+use Rattle.algebra.proofs.Bytes.{event_spelling}
 use Rattle.algebra.proofs.Texts.{read_text}
-use Rattle.texts.specs.Stack.{Room, stacked, joined_top}
+use Rattle.texts.specs.Stack.{Room, stacked}
 
 -- the dates of the terms read
 abbrev pub dates : {D : Type 0} → Kind D → (ℕ → D) → Read ℕ → List D

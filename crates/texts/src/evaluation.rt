@@ -33,7 +33,7 @@ impl EvaluationRefusal {
 
 // What an operator makes of the dates of its two sides.
 fn join<D: Date>(operator: Operator, p: D, q: D) -> D
-    ensures { result ≡ joined kind operator p q }
+    ensures { result ≡ joined D.kind operator p q }
 {
     match operator {
         Operator::Or => if p.no_later(q) { p } else { q },
@@ -51,7 +51,7 @@ fn join<D: Date>(operator: Operator, p: D, q: D) -> D
 // The date of an event.
 fn date_of_event<D: Date>(dating: &[D], event: u8) -> D
     requires { event < length dating.now }
-    ensures { result ≡ dating_of kind dating.now event }
+    ensures { result ≡ dating_of D.kind dating.now event }
 {
     dating[usize::from(event)]
 }
@@ -61,7 +61,7 @@ fn push_token<D: Date>(token: Token<u8>, dating: &[D], work: &mut [D], top: usiz
     requires room { Room token top (length work.old) (length dating.now) }
     requires within { top ≤ length work.old }
     ensures within { result ≤ length work.new }
-    ensures stack { drop result work.new ≡ stacked kind (dating_of kind dating.now) token (drop top work.old) }
+    ensures stack { drop result work.new ≡ stacked D.kind (dating_of D.kind dating.now) token (drop top work.old) }
 {
     match token {
         Token::Letter(event) => {
@@ -85,7 +85,7 @@ fn date_of_text<D: Date>(text: &[u8], dating: &[D], work: &mut [D]) -> D
     requires text { IsText text.now }
     requires dates { length dating.now ≡ 24 }
     requires room { 256 ≤ length work.old }
-    ensures { DateOf kind dating.now text.now result }
+    ensures { DateOf D.kind dating.now text.now result }
 {
     let mut top = work.len();
     for i in (0..text.len()).rev() {
@@ -110,8 +110,8 @@ fn has_room<D: Date>(work: &[D]) -> bool
 
 // The date of a text under a dating. The work table is written over; a refusal leaves it as it was.
 pub fn evaluate<D: Date>(text: &[u8], dating: &[D], work: &mut [D]) -> Result<D, EvaluationRefusal>
-    ensures outcome { Evaluated kind text.now dating.now (length work.old) result }
-    ensures only { (s : Result D EvaluationRefusal) → Evaluated kind text.now dating.now (length work.old) s → s ≡ result }
+    ensures outcome { Evaluated D.kind text.now dating.now (length work.old) result }
+    ensures only { (s : Result D EvaluationRefusal) → Evaluated D.kind text.now dating.now (length work.old) s → s ≡ result }
     ensures sized { length work.new ≡ length work.old }
     ensures left { OnErr result (work.new ≡ work.old) }
 {

@@ -5,4 +5,4 @@ use Rattle.assembly.proofs.step_bytes.add_term.Goals as goal
 pub returns : goal.returns
 returns c v =
     term_added v c.args.term.now _ (vec_items c.push.new.self) _ c.requires.0 c.requires.1
-    c.in-ok-push.ensures.items c.in-ok-extend-from-slice.ensures.items
+    c.in_ok-push.ensures.items c.in_ok-extend_from_slice.ensures.items

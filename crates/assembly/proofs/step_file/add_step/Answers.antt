@@ -4,16 +4,16 @@ use Rattle.assembly.specs.StepFiles.{StepFile}
 use Rattle.assembly.proofs.Filing.{filed_on, one_list}
 use Rattle.assembly.proofs.step_file.add_step.Goals as goal
 
-pub returns-in-err-more : goal.returns-in-err-more
-returns-in-err-more c =
-    let p = err_from_is_err_and c.from-residual.result c.from-residual.ensures.1 in
-    record { added = rw (p.1, p.2) c.in-err-more.ensures; one = one_list _ _; left = rw p.1 refl }
+pub returns-in_err-more : goal.returns-in_err-more
+returns-in_err-more c =
+    let p = err_from_is_err_and c.from_residual.result c.from_residual.ensures.1 in
+    record { added = rw (p.1, p.2) c.in_err-more.ensures; one = one_list _ _; left = rw p.1 refl }
 
 pub returns-in-Ok : goal.returns-in-Ok
 returns-in-Ok c = record {
   added = λ qs f.
-      subst (StepFile c.args.events _) (sym (c.in-Ok.ensures.items ∙ ap (λ (x : List ℕ). vec_items c.args.file.now ++ x) c.as-slice.ensures.value))
-      (filed_on f _ _ c.in-ok-more.ensures);
+      subst (StepFile c.args.events _) (sym (c.in-Ok.ensures.items ∙ ap (λ (x : List ℕ). vec_items c.args.file.now ++ x) c.as_slice.ensures.value))
+      (filed_on f _ _ c.in_ok-more.ensures);
   one = one_list _ _;
   left = tt;
 }

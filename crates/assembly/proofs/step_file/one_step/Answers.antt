@@ -5,10 +5,10 @@ use Rattle.assembly.proofs.step_file.one_step.Goals as goal
 
 pub framed-requires : goal.framed-requires
 framed-requires c =
-    omega (arith, says_short c.args.events _ _ c.in-ok-bytes.ensures.written, ap length c.as-slice.ensures.value)
+    omega (arith, says_short c.args.events _ _ c.in_ok-bytes.ensures.written, ap length c.as_slice.ensures.value)
 
 pub returns : goal.returns
 returns c =
-    one_filed c.args.events _ _ (vec_items c.in-ok-bytes.bytes)
-    (subst (λ (x : List ℕ). Begins (vec_items c.in-ok-framed.field-0) x []) c.as-slice.ensures.value c.in-ok-framed.ensures)
-    c.in-ok-bytes.ensures.written
+    one_filed c.args.events _ _ (vec_items c.in_ok-bytes.bytes)
+    (subst (λ (x : List ℕ). Begins (vec_items c.in_ok-framed.field-0) x []) c.as_slice.ensures.value c.in_ok-framed.ensures)
+    c.in_ok-bytes.ensures.written

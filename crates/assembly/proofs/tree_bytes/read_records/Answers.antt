@@ -15,12 +15,12 @@ returns-in-default c =
 
 pub loop-k-preserved : goal.loop-k-preserved
 loop-k-preserved c = (
-  read_more c.args.bytes.now (vec_items c.loop-k.records) _ c.in-Ok.one c.loop-k.rest.now _ c.loop-k.invariant.0 c.in-Ok.ensures c.in-ok-push.ensures.items,
-  omega (arith, c.in-ok-push.ensures.len),
+  read_more c.args.bytes.now (vec_items c.loop-k.records) _ c.in-Ok.one c.loop-k.rest.now _ c.loop-k.invariant.0 c.in-Ok.ensures c.in_ok-push.ensures.items,
+  omega (arith, c.in_ok-push.ensures.len),
 )
 
-pub returns-then-not-is-empty : goal.returns-then-not-is-empty
-returns-then-not-is-empty c =
+pub returns-then-not-is_empty : goal.returns-then-not-is_empty
+returns-then-not-is_empty c =
     let len : length (vec_items c.loop-k.records) ≡ c.args.count = omega (arith, c.loop-k.records.ok.0) in
     too_much _ (vec_items c.loop-k.records) c.loop-k.rest.now c.loop-k.invariant.0 c.args.count len (search rules)
 

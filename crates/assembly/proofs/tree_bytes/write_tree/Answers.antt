@@ -3,11 +3,11 @@ use Rattle.assembly.proofs.Laying.{Underway, written_none, written_more, written
 use Rattle.assembly.proofs.tree_bytes.write_tree.Goals as goal
 
 pub loop-one-init : goal.loop-one-init
-loop-one-init c = written_none _ _ c.args.records.now _ c.in-ok-bytes.ensures.items
+loop-one-init c = written_none _ _ c.args.records.now _ c.in_ok-bytes.ensures.items
 
 pub loop-one-preserved : goal.loop-one-preserved
 loop-one-preserved c =
-    written_more c.args.events c.in-Ok.count c.args.records.now c.loop-one.one_Index _ (vec_items c.loop-one.bytes) _ c.record-bytes.result (omega arith) c.loop-one.invariant c.record-bytes.ensures c.in-ok-extend-from-slice.ensures.items
+    written_more c.args.events c.in-Ok.count c.args.records.now c.loop-one.one_Index _ (vec_items c.loop-one.bytes) _ c.record_bytes.result (omega arith) c.loop-one.invariant c.record_bytes.ensures c.in_ok-extend_from_slice.ensures.items
 
 pub returns : goal.returns
 returns c =

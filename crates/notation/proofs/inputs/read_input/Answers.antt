@@ -4,17 +4,17 @@ use Rattle.notation.proofs.inputs.read_input.Goals as goal
 
 pub returns-in-len1 : goal.returns-in-len1
 returns-in-len1 c =
-    let n = named_letter c.args.word.now (search rules) c.read-letter.result c.read-letter.ensures in
+    let n = named_letter c.args.word.now (search rules) c.read_letter.result c.read_letter.ensures in
     record { named = n; one = one_name _; back = named_back _ _ n }
 
 pub returns-in-101 : goal.returns-in-101
 returns-in-101 c =
-    let n = named_event c.args.word.now (search rules) (search rules) (search rules) c.read-below.result c.read-below.ensures in
+    let n = named_event c.args.word.now (search rules) (search rules) (search rules) c.read_below.result c.read_below.ensures in
     record { named = n; one = one_name _; back = named_back _ _ n }
 
 pub returns-in-103 : goal.returns-in-103
 returns-in-103 c =
-    let n = named_gate c.args.word.now (search rules) (search rules) (search rules) c.read-gate.result c.read-gate.ensures in
+    let n = named_gate c.args.word.now (search rules) (search rules) (search rules) c.read_gate.result c.read_gate.ensures in
     record { named = n; one = one_name _; back = named_back _ _ n }
 
 pub returns-in-default : goal.returns-in-default

@@ -1,5 +1,5 @@
 use Rattle.std.proofs.Common.{rules}
 use Rattle.notation.proofs.numbers.read_byte.Goals as goal
 
-pub returns-in-err-number : goal.returns-in-err-number
-returns-in-err-number c = rw c.from-residual.ensures (λ n h d. c.in-err-number.ensures n (search rules) d)
+pub returns-in_err-number : goal.returns-in_err-number
+returns-in_err-number c = rw c.from_residual.ensures (λ n h d. c.in_err-number.ensures n (search rules) d)

@@ -7,7 +7,7 @@ use Rattle.notation.proofs.records.read_record.Goals as goal
 
 pub returns-in-len3 : goal.returns-in-len3
 returns-in-len3 c =
-    let r = subst (λ (ws : List (List ℕ)). MatchOption c.read-three.result ((x : Record) → RecordWords x ws → ⊥) (λ x. RecordWords x ws)) (sym (three_words c.args.words.now _ _ _ (search rules))) c.read-three.ensures in
+    let r = subst (λ (ws : List (List ℕ)). MatchOption c.read_three.result ((x : Record) → RecordWords x ws → ⊥) (λ x. RecordWords x ws)) (sym (three_words c.args.words.now _ _ _ (search rules))) c.read_three.ensures in
     record { read = r; one = one_record _; back = record_back _ _ r }
 
 pub returns-in-default : goal.returns-in-default

@@ -9,40 +9,40 @@ use Rattle.sequences.proofs.Closings.{at_end, granted, impossible_at, never_clos
 use Rattle.sequences.proofs.Padded.{padded_none}
 use Rattle.sequences.proofs.closing.closed_rows.Goals as goal
 
-pub returns-then-is-never : goal.returns-then-is-never
-returns-then-is-never c =
+pub returns-then-is_never : goal.returns-then-is_never
+returns-then-is_never c =
     let bs = c.args.text.now in
-    let n = never_closes bs (c.is-never.ensures.0 c.if-is-never.true) in (
+    let n = never_closes bs (c.is_never.ensures.0 c.if-is_never.true) in (
       granted bs [] n (omega arith) tt,
       record { sequences = []; closes = n; count = refl; kept = ap (λ (x : Row). replicate 64 x) c.blank.ensures ∙ sym (padded_none 64) },
     )
 
-pub returns-then-not-is-text : goal.returns-then-not-is-text
-returns-then-not-is-text c =
+pub returns-then-not-is_text : goal.returns-then-not-is_text
+returns-then-not-is_text c =
     let bs = c.args.text.now in
-    no_sum bs (λ s. both_ways _ c.if-not-is-text.true (c.is-text.ensures.1 (sum_text bs s)))
+    no_sum bs (λ s. both_ways _ c.if-not-is_text.true (c.is_text.ensures.1 (sum_text bs s)))
 
 pub returns-then-not-ended : goal.returns-then-not-ended
 returns-then-not-ended c =
     let bs = c.args.text.now in
-    let scan = c.scan-sum-scan.result in
+    let scan = c.scan_sum-scan.result in
     no_sum bs
-    (no_end bs (c.is-text.ensures.0 c.if-not-is-text.false) scan.reading scan.rows scan.count c.scan-sum-scan.ensures
-    (λ e. both_ways _ c.if-is-never.false (c.is-never.ensures.1 e)) (sym c.ended.ensures ∙ c.if-not-ended.true))
+    (no_end bs (c.is_text.ensures.0 c.if-not-is_text.false) scan.reading scan.rows scan.count c.scan_sum-scan.ensures
+    (λ e. both_ways _ c.if-is_never.false (c.is_never.ensures.1 e)) (sym c.ended.ensures ∙ c.if-not-ended.true))
 
-pub returns-then-not-has-room : goal.returns-then-not-has-room
-returns-then-not-has-room c =
+pub returns-then-not-has_room : goal.returns-then-not-has_room
+returns-then-not-has_room c =
     let bs = c.args.text.now in
-    let scan = c.scan-sum-scan.result in
-    let f = at_end bs (c.is-text.ensures.0 c.if-not-is-text.false) scan.reading scan.rows scan.count c.scan-sum-scan.ensures (sym c.ended.ensures ∙ c.if-not-ended.false) in
+    let scan = c.scan_sum-scan.result in
+    let f = at_end bs (c.is_text.ensures.0 c.if-not-is_text.false) scan.reading scan.rows scan.count c.scan_sum-scan.ensures (sym c.ended.ensures ∙ c.if-not-ended.false) in
     let more : 64 < scan.count = omega (arith, tests) in
     too_many bs f.sequences f.closes (omega (arith, f.counted))
 
-pub all-possible-requires : goal.all-possible-requires
-all-possible-requires c =
+pub all_possible-requires : goal.all_possible-requires
+all_possible-requires c =
     let bs = c.args.text.now in
-    let scan = c.scan-sum-scan.result in
-    let f = at_end bs (c.is-text.ensures.0 c.if-not-is-text.false) scan.reading scan.rows scan.count c.scan-sum-scan.ensures (sym c.ended.ensures ∙ c.if-not-ended.false) in
+    let scan = c.scan_sum-scan.result in
+    let f = at_end bs (c.is_text.ensures.0 c.if-not-is_text.false) scan.reading scan.rows scan.count c.scan_sum-scan.ensures (sym c.ended.ensures ∙ c.if-not-ended.false) in
     let few : scan.count ≤ 64 = omega (arith, tests) in
     record {
       few = few;
@@ -51,29 +51,29 @@ all-possible-requires c =
           (proper_at bs f.sequences f.closes (omega (arith, f.counted)) k (omega (arith, f.counted))).sound;
     }
 
-pub returns-then-not-all-possible : goal.returns-then-not-all-possible
-returns-then-not-all-possible c =
+pub returns-then-not-all_possible : goal.returns-then-not-all_possible
+returns-then-not-all_possible c =
     let bs = c.args.text.now in
-    let scan = c.scan-sum-scan.result in
-    let f = at_end bs (c.is-text.ensures.0 c.if-not-is-text.false) scan.reading scan.rows scan.count c.scan-sum-scan.ensures (sym c.ended.ensures ∙ c.if-not-ended.false) in
+    let scan = c.scan_sum-scan.result in
+    let f = at_end bs (c.is_text.ensures.0 c.if-not-is_text.false) scan.reading scan.rows scan.count c.scan_sum-scan.ensures (sym c.ended.ensures ∙ c.if-not-ended.false) in
     let few : scan.count ≤ 64 = omega (arith, tests) in
     let low : length f.sequences ≤ 64 = omega (arith, f.counted) in
     one_impossible bs f.sequences f.closes low
     (impossible_at bs f.sequences f.closes low
     (subst (λ (rs : List Row). SomeImpossible rs (length f.sequences)) f.kept
-    (subst (λ (n : ℕ). SomeImpossible scan.rows n) f.counted (c.all-possible.ensures.no c.if-not-all-possible.true))))
+    (subst (λ (n : ℕ). SomeImpossible scan.rows n) f.counted (c.all_possible.ensures.no c.if-not-all_possible.true))))
 
 pub returns : goal.returns
 returns c =
     let bs = c.args.text.now in
-    let scan = c.scan-sum-scan.result in
-    let f = at_end bs (c.is-text.ensures.0 c.if-not-is-text.false) scan.reading scan.rows scan.count c.scan-sum-scan.ensures (sym c.ended.ensures ∙ c.if-not-ended.false) in
+    let scan = c.scan_sum-scan.result in
+    let f = at_end bs (c.is_text.ensures.0 c.if-not-is_text.false) scan.reading scan.rows scan.count c.scan_sum-scan.ensures (sym c.ended.ensures ∙ c.if-not-ended.false) in
     let few : scan.count ≤ 64 = omega (arith, tests) in
     let low : length f.sequences ≤ 64 = omega (arith, f.counted) in (
       granted bs f.sequences f.closes low
           (possible_all bs f.sequences f.closes low
           (λ k l.
           subst (λ (rs : List Row). Impossible (get_or rs k absent) → ⊥) f.kept
-          (c.all-possible.ensures.yes c.if-not-all-possible.false k (omega (arith, f.counted))))),
-      record { sequences = f.sequences; closes = f.closes; count = c.rows-of.ensures.len ∙ f.counted; kept = c.rows-of.ensures.rows ∙ f.kept },
+          (c.all_possible.ensures.yes c.if-not-all_possible.false k (omega (arith, f.counted))))),
+      record { sequences = f.sequences; closes = f.closes; count = c.rows_of.ensures.len ∙ f.counted; kept = c.rows_of.ensures.rows ∙ f.kept },
     )

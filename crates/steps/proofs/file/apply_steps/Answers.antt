@@ -11,43 +11,43 @@ use Rattle.steps.proofs.file.apply_steps.Goals.{In-Some}
 
 begins : (c : In-Some) → Begins c.loop-bytes.progress.left.now c.in-Some.bytes.now c.in-Some.rest.now
 begins c =
-    next_some c.loop-bytes.progress.step _ c.next-record.result c.in-ok-bytes.field-0 (c.in-Some.bytes, c.in-Some.rest)
-    c.next-record.ensures.next (sym c.at-step.ensures ∙ c.in-ok-bytes.was) c.in-Some.is
+    next_some c.loop-bytes.progress.step _ c.next_record.result c.in_ok-bytes.field-0 (c.in-Some.bytes, c.in-Some.rest)
+    c.next_record.ensures.next (sym c.at_step.ensures ∙ c.in_ok-bytes.was) c.in-Some.is
 
 pub loop-bytes-init : goal.loop-bytes-init
 loop-bytes-init c = running_start c.args.events c.args.text c.args.file.now
 
-pub returns-in-err-bytes : goal.returns-in-err-bytes
-returns-in-err-bytes c =
-    let r = c.from-residual.result in
-    let p = err_from_is_err_and r c.from-residual.ensures.1 in
-    let is : r ≡ Err c.in-err-bytes.field-0.0 = p.1 ∙ ap Err p.2 in
+pub returns-in_err-bytes : goal.returns-in_err-bytes
+returns-in_err-bytes c =
+    let r = c.from_residual.result in
+    let p = err_from_is_err_and r c.from_residual.ensures.1 in
+    let is : r ≡ Err c.in_err-bytes.field-0.0 = p.1 ∙ ap Err p.2 in
     record {
       run = subst (λ (x : Result Text StepFault). Runs c.args.events 1 (used c.args.text) c.args.file.now (text_in x)) (sym is)
           (run_cut c.args.events c.args.text c.args.file.now c.loop-bytes.progress.step c.loop-bytes.progress.present _ c.loop-bytes.invariant
-          c.next-record.result _ c.next-record.ensures.next (sym c.at-step.ensures ∙ c.in-err-bytes.was));
+          c.next_record.result _ c.next_record.ensures.next (sym c.at_step.ensures ∙ c.in_err-bytes.was));
       one = one_run c.args.events (used c.args.text) c.args.file.now;
-      whole = IfOk-from_err r _ c.from-residual.ensures.0;
-      derived = IfOk-from_err r _ c.from-residual.ensures.0;
+      whole = IfOk-from_err r _ c.from_residual.ensures.0;
+      derived = IfOk-from_err r _ c.from_residual.ensures.0;
     }
 
-pub returns-in-err-new : goal.returns-in-err-new
-returns-in-err-new c =
-    let k = (goal.at.returns-in-err-new c).In-Some in
-    let r = c.from-residual-in-err-new.result in
-    let p = err_from_is_err_and r c.from-residual-in-err-new.ensures.1 in
-    let is : r ≡ Err c.in-err-new.field-0.0 = p.1 ∙ ap Err p.2 in
+pub returns-in_err-new : goal.returns-in_err-new
+returns-in_err-new c =
+    let k = (goal.at.returns-in_err-new c).In-Some in
+    let r = c.from_residual-in_err-new.result in
+    let p = err_from_is_err_and r c.from_residual-in_err-new.ensures.1 in
+    let is : r ≡ Err c.in_err-new.field-0.0 = p.1 ∙ ap Err p.2 in
     record {
       run = subst (λ (x : Result Text StepFault). Runs c.args.events 1 (used c.args.text) c.args.file.now (text_in x)) (sym is)
           (run_refused c.args.events c.args.text c.args.file.now c.loop-bytes.progress.step c.loop-bytes.progress.present _ c.loop-bytes.invariant
-          c.in-Some.bytes.now c.in-Some.rest.now c.apply-step.result _ (begins k) c.apply-step.ensures.answer (sym c.at-step-in-Some.ensures ∙ c.in-err-new.was));
+          c.in-Some.bytes.now c.in-Some.rest.now c.apply_step.result _ (begins k) c.apply_step.ensures.answer (sym c.at_step-in-Some.ensures ∙ c.in_err-new.was));
       one = one_run c.args.events (used c.args.text) c.args.file.now;
-      whole = IfOk-from_err r _ c.from-residual-in-err-new.ensures.0;
-      derived = IfOk-from_err r _ c.from-residual-in-err-new.ensures.0;
+      whole = IfOk-from_err r _ c.from_residual-in_err-new.ensures.0;
+      derived = IfOk-from_err r _ c.from_residual-in_err-new.ensures.0;
     }
 
 pub after-progress-requires : goal.after-progress-requires
-after-progress-requires c = omega (arith, c.loop-bytes.invariant.count, c.well-formed)
+after-progress-requires c = omega (arith, c.loop-bytes.invariant.count, c.well_formed)
 
 pub loop-bytes-smaller : goal.loop-bytes-smaller
 loop-bytes-smaller c =
@@ -61,17 +61,17 @@ loop-bytes-preserved c =
     let on = Running c.args.events c.args.text c.args.file.now in
     subst (λ (n : ℕ). on n next.present next.left.now) (sym is.step)
     (subst (λ (t : Text). on (c.loop-bytes.progress.step + 1) t next.left.now) (sym is.present)
-    (subst (λ (l : List ℕ). on (c.loop-bytes.progress.step + 1) c.in-ok-new.new l) (sym is.left)
+    (subst (λ (l : List ℕ). on (c.loop-bytes.progress.step + 1) c.in_ok-new.new l) (sym is.left)
     (run_more c.args.events c.args.text c.args.file.now c.loop-bytes.progress.step c.loop-bytes.progress.present _ c.loop-bytes.invariant
-    c.in-Some.bytes.now c.in-Some.rest.now c.apply-step.result c.in-ok-new.new
-    (begins (goal.at.loop-bytes-preserved c).In-Some) c.apply-step.ensures.answer c.apply-step.ensures.whole c.apply-step.ensures.derived
-    (sym c.at-step-in-Some.ensures ∙ c.in-ok-new.was))))
+    c.in-Some.bytes.now c.in-Some.rest.now c.apply_step.result c.in_ok-new.new
+    (begins (goal.at.loop-bytes-preserved c).In-Some) c.apply_step.ensures.answer c.apply_step.ensures.whole c.apply_step.ensures.derived
+    (sym c.at_step-in-Some.ensures ∙ c.in_ok-new.was))))
 
 pub returns : goal.returns
 returns c =
     record {
       run = run_ended c.args.events c.args.text c.args.file.now c.loop-bytes.progress.step c.loop-bytes.progress.present _ c.loop-bytes.invariant
-          c.next-record.result _ c.next-record.ensures.next (sym c.at-step.ensures ∙ c.in-ok-bytes.was) c.in-default.is;
+          c.next_record.result _ c.next_record.ensures.next (sym c.at_step.ensures ∙ c.in_ok-bytes.was) c.in-default.is;
       one = one_run c.args.events (used c.args.text) c.args.file.now;
       whole = c.loop-bytes.invariant.whole;
       derived = c.loop-bytes.invariant.derived;

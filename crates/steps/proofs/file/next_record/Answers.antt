@@ -9,22 +9,22 @@ use Rattle.steps.proofs.file.next_record.Goals as goal
 pub returns-in-empty : goal.returns-in-empty
 returns-in-empty c = record { next = nil_from_length _ (omega (arith, tests)); one = one_record c.args.file.now }
 
-pub returns-then-is-cut : goal.returns-then-is-cut
-returns-then-is-cut c =
+pub returns-then-is_cut : goal.returns-then-is_cut
+returns-then-is_cut c =
     let file = c.args.file.now in
     let tail = take (length file - 2) (drop 2 file) in
     record {
-      next = (refl, cut_short file (get_or file 0 0) (get_or file 1 0) c.number-of-size.result tail (two_front file (search rules)) c.number-of-size.ensures (c.is-cut.ensures.0 c.if-is-cut.true));
+      next = (refl, cut_short file (get_or file 0 0) (get_or file 1 0) c.number_of-size.result tail (two_front file (search rules)) c.number_of-size.ensures (c.is_cut.ensures.0 c.if-is_cut.true));
       one = one_record file;
     }
 
-pub returns-else-is-cut : goal.returns-else-is-cut
-returns-else-is-cut c =
+pub returns-else-is_cut : goal.returns-else-is_cut
+returns-else-is_cut c =
     let file = c.args.file.now in
     let tail = take (length file - 2) (drop 2 file) in
-    let whole = not_from_Decides c.is-cut.result c.is-cut.ensures c.if-is-cut.false in
-    let fits : c.number-of-size.result ≤ length tail = elim (cases_lt (length tail) c.number-of-size.result) [ inl h ↦ absurd (whole h) | inr h ↦ h ] in
+    let whole = not_from_Decides c.is_cut.result c.is_cut.ensures c.if-is_cut.false in
+    let fits : c.number_of-size.result ≤ length tail = elim (cases_lt (length tail) c.number_of-size.result) [ inl h ↦ absurd (whole h) | inr h ↦ h ] in
     record {
-      next = begins file (get_or file 0 0) (get_or file 1 0) c.number-of-size.result tail (two_front file (search rules)) c.number-of-size.ensures fits;
+      next = begins file (get_or file 0 0) (get_or file 1 0) c.number_of-size.result tail (two_front file (search rules)) c.number_of-size.ensures fits;
       one = one_record file;
     }

@@ -7,21 +7,21 @@ use Rattle.steps.proofs.Taken.{new_term_lem}
 use Rattle.steps.proofs.matching.bind.Goals as goal
 use Rattle.std.proofs.lemmas.Bool.Decides.{Decides-eqb}
 
-pub returns-in-ok-end : goal.returns-in-ok-end
-returns-in-ok-end c =
-    let found = c.in-ok-end.ensures in
-    new_term_lem c.args.bound c.args.text.now c.in-ok-end.end found.0 c.in-None.is found.1
+pub returns-in_ok-end : goal.returns-in_ok-end
+returns-in_ok-end c =
+    let found = c.in_ok-end.ensures in
+    new_term_lem c.args.bound c.args.text.now c.in_ok-end.end found.0 c.in-None.is found.1
 
-pub returns-then-starts-with : goal.returns-then-starts-with
-returns-then-starts-with c =
+pub returns-then-starts_with : goal.returns-then-starts_with
+returns-then-starts_with c =
     let text = c.args.text.now in
     let w = c.in-Some.term in
-    let front = (starts_is Decides-eqb text w.now _ c.starts-with.ensures.value).0 c.if-starts-with.true in
+    let front = (starts_is Decides-eqb text w.now _ c.starts_with.ensures.value).0 c.if-starts_with.true in
     (subst (λ (o : Option (Bor (List ℕ))). Takes o w.now) (sym c.in-Some.is) refl, front ∙ ap (λ (l : List ℕ). w.now ++ l) (sym (take_rest text (length w.now))))
 
-pub returns-else-starts-with : goal.returns-else-starts-with
-returns-else-starts-with c v rest takes e =
+pub returns-else-starts_with : goal.returns-else-starts_with
+returns-else-starts_with c v rest takes e =
     let text = c.args.text.now in
     let w = c.in-Some.term in
     let is : v ≡ w.now = subst (λ (o : Option (Bor (List ℕ))). Takes o v) c.in-Some.is takes in
-    both_ways _ c.if-starts-with.false ((starts_is Decides-eqb text w.now _ c.starts-with.ensures.value).1 rest (e ∙ ap (λ (l : List ℕ). l ++ rest) is))
+    both_ways _ c.if-starts_with.false ((starts_is Decides-eqb text w.now _ c.starts_with.ensures.value).1 rest (e ∙ ap (λ (l : List ℕ). l ++ rest) is))

@@ -7,4 +7,4 @@ use Rattle.steps.proofs.record.has_whole_terms.Goals as goal
 pub returns : goal.returns
 returns c =
     decides_letters (λ (v : Variable). WholeTerm c.args.events (supplied_for (request_of c.args.said.now) v))
-    _ _ _ _ c.all-three.ensures c.is-term.ensures c.is-term-2.ensures c.is-term-3.ensures
+    _ _ _ _ c.all_three.ensures c.is_term.ensures c.is_term-2.ensures c.is_term-3.ensures

@@ -11,22 +11,22 @@ loop-bit-init c = remaining_all c.args.map c.args.bytes.now _ c.blank.ensures
 
 pub loop-bit-preserved : goal.loop-bit-preserved
 loop-bit-preserved c =
-    remaining_more c.args.map c.args.bytes.now c.loop-bit.bit (omega arith) _ _ c.loop-bit.invariant _ _ c.in-ok-reading.ensures
+    remaining_more c.args.map c.args.bytes.now c.loop-bit.bit (omega arith) _ _ c.loop-bit.invariant _ _ c.in_ok-reading.ensures
 
-pub returns-in-err-reading : goal.returns-in-err-reading
-returns-in-err-reading c =
-    let p = err_from_is_err_and c.from-residual.result c.from-residual.ensures.1 in
-    let e = c.in-err-reading.ensures in
+pub returns-in_err-reading : goal.returns-in_err-reading
+returns-in_err-reading c =
+    let p = err_from_is_err_and c.from_residual.result c.from_residual.ensures.1 in
+    let e = c.in_err-reading.ensures in
     rw (p.1, p.2) (e.0, remaining_none c.args.map c.args.bytes.now c.loop-bit.bit (omega arith) _ _ c.loop-bit.invariant e.1)
 
-pub returns-then-not-is-empty : goal.returns-then-not-is-empty
-returns-then-not-is-empty c = (
+pub returns-then-not-is_empty : goal.returns-then-not-is_empty
+returns-then-not-is_empty c = (
   refl,
   remaining_left c.args.map c.args.bytes.now c.loop-bit.bit _ _ (omega arith) c.loop-bit.invariant
-      (λ e. eqb-false _ 0 (sym c.if-not-is-empty.ensures) (ap length e)),
+      (λ e. eqb-false _ 0 (sym c.if-not-is_empty.ensures) (ap length e)),
 )
 
 pub returns : goal.returns
 returns c =
     remaining_done c.args.map c.args.bytes.now c.loop-bit.bit _ _ (omega arith) c.loop-bit.invariant
-    (nil_from_length _ (eqb-true _ 0 (sym c.if-not-is-empty.ensures)))
+    (nil_from_length _ (eqb-true _ 0 (sym c.if-not-is_empty.ensures)))

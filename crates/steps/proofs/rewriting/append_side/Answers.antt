@@ -7,13 +7,13 @@ use Rattle.steps.proofs.rewriting.append_side.Goals as goal
 pub loop-symbol-init : goal.loop-symbol-init
 loop-symbol-init c s is bound = spelt_none _ s _ c.args.side.now is bound
 
-pub returns-then-not-append-symbol : goal.returns-then-not-append-symbol
-returns-then-not-append-symbol c s is bound =
-    spelt_full c.args.bound s _ (used c.loop-symbol.text) c.args.side.now c.loop-symbol.symbol-index (omega arith) (c.loop-symbol.invariant s is bound) (used c.append-symbol.new.text) c.if-not-append-symbol.ensures
+pub returns-then-not-append_symbol : goal.returns-then-not-append_symbol
+returns-then-not-append_symbol c s is bound =
+    spelt_full c.args.bound s _ (used c.loop-symbol.text) c.args.side.now c.loop-symbol.symbol-index (omega arith) (c.loop-symbol.invariant s is bound) (used c.append_symbol.new.text) c.if-not-append_symbol.ensures
 
 pub loop-symbol-preserved : goal.loop-symbol-preserved
 loop-symbol-preserved c s is bound =
-    spelt_more c.args.bound s _ (used c.loop-symbol.text) c.args.side.now c.loop-symbol.symbol-index (omega arith) (c.loop-symbol.invariant s is bound) (used c.append-symbol.new.text) c.if-not-append-symbol.ensures
+    spelt_more c.args.bound s _ (used c.loop-symbol.text) c.args.side.now c.loop-symbol.symbol-index (omega arith) (c.loop-symbol.invariant s is bound) (used c.append_symbol.new.text) c.if-not-append_symbol.ensures
 
 pub returns : goal.returns
 returns c s is bound =

@@ -8,7 +8,7 @@ use Rattle.steps.proofs.rewriting.has_letter.Goals as goal
 pub returns : goal.returns
 returns c s is =
     let r = c.contains.result in
-    let found = contains_decides eqb Decides-eqb c.args.side.now c.variable-byte.result r c.contains.ensures.cases in
+    let found = contains_decides eqb Decides-eqb c.args.side.now c.variable_byte.result r c.contains.ensures.cases in
     same_from_decides r (has c.args.letter s)
-    (subst (λ (l : List ℕ). Decides r (Contains l (variable_byte c.args.letter))) is (subst (λ (n : ℕ). Decides r (Contains c.args.side.now n)) c.variable-byte.ensures found))
+    (subst (λ (l : List ℕ). Decides r (Contains l (variable_byte c.args.letter))) is (subst (λ (n : ℕ). Decides r (Contains c.args.side.now n)) c.variable_byte.ensures found))
     (decides_has c.args.letter s)

@@ -11,24 +11,24 @@ use Rattle.steps.specs.declared.refusal.StepRefusal.TheVariants.{Form, Supplies,
 use Rattle.steps.proofs.Answering.{Answered, answered, refused, step_one, no_form, no_supply, no_place, provided, tested_lacks, lacks_tested}
 use Rattle.steps.proofs.stepping.apply_step.Goals as goal
 
-pub returns-in-err-said : goal.returns-in-err-said
-returns-in-err-said c =
+pub returns-in_err-said : goal.returns-in_err-said
+returns-in_err-said c =
     let old = used c.args.text.now in
     let bs = c.args.bytes.now in
-    let p = err_from_is_err_and c.from-residual.result c.from-residual.ensures.1 in
-    let e = c.in-err-said.ensures.read in
-    let is : c.from-residual.result ≡ Err Form = p.1 ∙ ap Err (p.2 ∙ e.0) in
+    let p = err_from_is_err_and c.from_residual.result c.from_residual.ensures.1 in
+    let e = c.in_err-said.ensures.read in
+    let is : c.from_residual.result ≡ Err Form = p.1 ∙ ap Err (p.2 ∙ e.0) in
     let a = subst (Answered old c.args.events bs) (sym is) (refused old c.args.events bs Form (no_form old c.args.events bs e.1)) in
     record { answer = a.answer; one = step_one old c.args.events bs; whole = a.whole; step = a.step; derived = a.derived }
 
-pub returns-then-not-supplies-lacked : goal.returns-then-not-supplies-lacked
-returns-then-not-supplies-lacked c =
+pub returns-then-not-supplies_lacked : goal.returns-then-not-supplies_lacked
+returns-then-not-supplies_lacked c =
     let old = used c.args.text.now in
     let bs = c.args.bytes.now in
-    let s = c.in-ok-said.said in
-    let says = c.in-ok-said.ensures.read in
-    let tested = c.supplies-lacked.ensures (old_of (request_of s)) (new_of (request_of s)) c.old-side-from.ensures c.new-side-to.ensures in
-    let wrong = not_from_Decides c.supplies-lacked.result tested c.if-not-supplies-lacked.true in
+    let s = c.in_ok-said.said in
+    let says = c.in_ok-said.ensures.read in
+    let tested = c.supplies_lacked.ensures (old_of (request_of s)) (new_of (request_of s)) c.old_side-from.ensures c.new_side-to.ensures in
+    let wrong = not_from_Decides c.supplies_lacked.result tested c.if-not-supplies_lacked.true in
     let a = refused old c.args.events bs Supplies (no_supply old c.args.events bs (request_of s) says (λ l. wrong (lacks_tested s l))) in
     record { answer = a.answer; one = step_one old c.args.events bs; whole = a.whole; step = a.step; derived = a.derived }
 
@@ -36,11 +36,11 @@ pub returns-then-said-old : goal.returns-then-said-old
 returns-then-said-old c =
     let old = used c.args.text.now in
     let bs = c.args.bytes.now in
-    let s = c.in-ok-said.said in
-    let says = c.in-ok-said.ensures.read in
-    let tested = c.supplies-lacked.ensures (old_of (request_of s)) (new_of (request_of s)) c.old-side-from.ensures c.new-side-to.ensures in
-    let right = tested.0 c.if-not-supplies-lacked.false in
-    let past : length old ≤ s.place = omega (arith, ap length c.as-bytes-old.ensures) in
+    let s = c.in_ok-said.said in
+    let says = c.in_ok-said.ensures.read in
+    let tested = c.supplies_lacked.ensures (old_of (request_of s)) (new_of (request_of s)) c.old_side-from.ensures c.new_side-to.ensures in
+    let right = tested.0 c.if-not-supplies_lacked.false in
+    let past : length old ≤ s.place = omega (arith, ap length c.as_bytes-old.ensures) in
     let a = refused old c.args.events bs Place (no_place old c.args.events bs (request_of s) says (tested_lacks s right) past) in
     record { answer = a.answer; one = step_one old c.args.events bs; whole = a.whole; step = a.step; derived = a.derived }
 
@@ -48,13 +48,13 @@ pub returns : goal.returns
 returns c =
     let old = used c.args.text.now in
     let bs = c.args.bytes.now in
-    let s = c.in-ok-said.said in
+    let s = c.in_ok-said.said in
     let q = request_of s in
-    let says = c.in-ok-said.ensures.read in
-    let tested = c.supplies-lacked.ensures (old_of q) (new_of q) c.old-side-from.ensures c.new-side-to.ensures in
-    let right = tested.0 c.if-not-supplies-lacked.false in
-    let inside : s.place < length old = omega (arith, ap length c.as-bytes-old.ensures) in
-    let made = c.rewrite.ensures (old_of q) (new_of q) c.old-side-from.ensures c.new-side-to.ensures (provided c.args.events bs s says right) in
+    let says = c.in_ok-said.ensures.read in
+    let tested = c.supplies_lacked.ensures (old_of q) (new_of q) c.old_side-from.ensures c.new_side-to.ensures in
+    let right = tested.0 c.if-not-supplies_lacked.false in
+    let inside : s.place < length old = omega (arith, ap length c.as_bytes-old.ensures) in
+    let made = c.rewrite.ensures (old_of q) (new_of q) c.old_side-from.ensures c.new_side-to.ensures (provided c.args.events bs s says right) in
     let a = answered old c.args.events bs s says right inside c.rewrite.result
-    (subst (λ (l : List ℕ). Rewritten l s.place (old_of q) (new_of q) s.supplied c.rewrite.result) c.as-bytes-old.ensures made) in
+    (subst (λ (l : List ℕ). Rewritten l s.place (old_of q) (new_of q) s.supplied c.rewrite.result) c.as_bytes-old.ensures made) in
     record { answer = a.answer; one = step_one old c.args.events bs; whole = a.whole; step = a.step; derived = a.derived }

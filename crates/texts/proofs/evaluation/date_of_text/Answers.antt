@@ -1,6 +1,6 @@
-use Rattle.std.proofs.Common.{◌≡◌, ℕ, List, length, sym, ap, ◌∙◌, subst, arith}
+use Rattle.std.proofs.Common.{ℕ, List, length, sym, ap, ◌∙◌, subst, arith}
 use lib.Seq.{drop-length}
-use Rattle.algebra.specs.Terms.{Term, date, dating_of}
+use Rattle.algebra.specs.Terms.{date, dating_of}
 use Rattle.algebra.specs.Texts.{event_token, terms}
 use Rattle.algebra.proofs.Bytes.{same_term}
 use Rattle.texts.specs.Stack.{Room}
@@ -16,18 +16,18 @@ loop-i-init g c =
           ∙ sym (ap (λ (x : List ℕ). dates K (dating_of K c.args.dating.now) (terms event_token x)) (drop-length c.args.text.now)),
     )
 
-pub push-token-top-requires : goal.push-token-top-requires
-push-token-top-requires g c =
+pub push_token-top-requires : goal.push_token-top-requires
+push_token-top-requires g c =
     let K = g.D.Date.kind in
     let text = c.args.text.now in
     let whole = c.requires.text.whole in
     let inv = c.loop-i.invariant in
     record {
       room =
-          subst (λ (n : ℕ). Room c.read-token.result c.loop-i.top (length c.loop-i.work) n) (sym c.requires.dates)
+          subst (λ (n : ℕ). Room c.read_token.result c.loop-i.top (length c.loop-i.work) n) (sym c.requires.dates)
           (room K (dating_of K c.args.dating.now) text whole.term whole.written c.loop-i.i c.loop-i-test.true c.loop-i.auto.i
           c.loop-i.work c.loop-i.top inv.0 inv.1 24 (whole_below 24 text whole) c.requires.text.short
-          (omega (arith, c.loop-i.auto.work, c.requires.room)) c.read-token.result c.read-token.ensures);
+          (omega (arith, c.loop-i.auto.work, c.requires.room)) c.read_token.result c.read_token.ensures);
       within = inv.0;
     }
 
@@ -36,10 +36,10 @@ loop-i-preserved g c =
     let K = g.D.Date.kind in
     let whole = c.requires.text.whole in
     let inv = c.loop-i.invariant in (
-      c.push-token-top.ensures.within,
-      c.push-token-top.ensures.stack
+      c.push_token-top.ensures.within,
+      c.push_token-top.ensures.stack
           ∙ turned K (dating_of K c.args.dating.now) c.args.text.now whole.term whole.written c.loop-i.i c.loop-i-test.true c.loop-i.auto.i
-          c.loop-i.work c.loop-i.top inv.0 inv.1 c.read-token.result c.read-token.ensures,
+          c.loop-i.work c.loop-i.top inv.0 inv.1 c.read_token.result c.read_token.ensures,
     )
 
 pub bounds-work-top : goal.bounds-work-top

@@ -1,7 +1,7 @@
-use Rattle.std.proofs.Common.{◌≡◌, ℕ, suc, ◌+◌, ◌-◌, ◌<◌, ◌≤◌, List, ◌∷◌, length, drop, sym, ap, ◌∙◌, subst, ap₂, arith, length-set}
+use Rattle.std.proofs.Common.{◌≡◌, ℕ, suc, ◌+◌, ◌≤◌, ◌∷◌, length, drop, sym, ap, ◌∙◌, subst, ap₂, arith, length-set}
 use Rattle.algebra.specs.Terms.{dating_of, joined}
 use Rattle.algebra.specs.declared.Token.{Token}
-use Rattle.algebra.specs.declared.Token.TheVariants.{Letter, Never, Joins}
+use Rattle.algebra.specs.declared.Token.TheVariants.{Letter}
 use Rattle.texts.specs.Stack.{Room, stacked, joined_top}
 use Rattle.texts.proofs.Stacks.{written_top, pushed, top_two}
 use Rattle.texts.proofs.evaluation.push_token.Goals as goal
@@ -17,7 +17,7 @@ returns-in-Letter g c =
     record {
       within = simp length-set (omega arith);
       stack =
-          pushed ws top c.date-of-event.result room.0 c.requires.within ∙ ap (λ x. x ∷ drop top ws) c.date-of-event.ensures
+          pushed ws top c.date_of_event.result room.0 c.requires.within ∙ ap (λ x. x ∷ drop top ws) c.date_of_event.ensures
           ∙ ap (λ (k : Token ℕ). stacked K (dating_of K ds) k (drop top ws)) (sym c.in-Letter.is);
     }
 

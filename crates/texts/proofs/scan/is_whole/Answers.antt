@@ -7,8 +7,8 @@ use Rattle.texts.proofs.scan.is_whole.Goals as goal
 pub returns-then-end-bytes : goal.returns-then-end-bytes
 returns-then-end-bytes c =
     let found = c.in-Some.ensures in (
-      λ e. spans_whole _ _ found.0 _ found.1 c.if-end-bytes.true (c.letters-below.ensures.0 e),
-      λ w. c.letters-below.ensures.1 (whole_below _ _ w),
+      λ e. spans_whole _ _ found.0 _ found.1 c.if-end-bytes.true (c.letters_below.ensures.0 e),
+      λ w. c.letters_below.ensures.1 (whole_below _ _ w),
     )
 
 pub returns-else-end-bytes : goal.returns-else-end-bytes

@@ -6,18 +6,18 @@ pub returns-then-end-bytes : goal.returns-then-end-bytes
 returns-then-end-bytes c t rest e =
     stop_end 1 _ c.args.bytes.now c.loop-terms.terms c.loop-terms.end c.loop-terms-test.true c.if-end-bytes.true c.loop-terms.invariant.2 rest (one t _ rest e)
 
-pub returns-in-err-terms : goal.returns-in-err-terms
-returns-in-err-terms c = rw c.from-residual.ensures (λ t rest e.
+pub returns-in_err-terms : goal.returns-in_err-terms
+returns-in_err-terms c = rw c.from_residual.ensures (λ t rest e.
     stop_unknown 1 _ c.args.bytes.now c.loop-terms.terms c.loop-terms.end c.loop-terms-test.true c.if-end-bytes.false c.loop-terms.invariant.2
-    c.read-token.result c.read-token.ensures c.in-err-terms.ensures rest (one t _ rest e))
+    c.read_token.result c.read_token.ensures c.in_err-terms.ensures rest (one t _ rest e))
 
 pub loop-terms-preserved : goal.loop-terms-preserved
 loop-terms-preserved c =
-    let some = c.in-ok-terms.ensures in (
-      after_small c.read-token.result c.loop-terms.terms _ c.loop-terms.end c.loop-terms.invariant.0 some,
+    let some = c.in_ok-terms.ensures in (
+      after_small c.read_token.result c.loop-terms.terms _ c.loop-terms.end c.loop-terms.invariant.0 some,
       λ z. omega (arith, c.if-end-bytes.false),
       alike_after 1 _ c.args.bytes.now c.loop-terms.terms c.loop-terms.end c.loop-terms-test.true c.if-end-bytes.false c.loop-terms.invariant.2
-          c.read-token.result c.read-token.ensures _ some,
+          c.read_token.result c.read_token.ensures _ some,
     )
 
 pub returns : goal.returns

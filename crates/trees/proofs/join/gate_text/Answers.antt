@@ -3,10 +3,10 @@ use Rattle.std.proofs.lemmas.Result.{err_from_is_err_and}
 use Rattle.algebra.specs.Texts.{text_of}
 use Rattle.trees.proofs.join.gate_text.Goals as goal
 
-pub returns-in-err-in-order : goal.returns-in-err-in-order
-returns-in-err-in-order c p q a b =
-    let x = err_from_is_err_and c.from-residual.result c.from-residual.ensures.1 in
-    let told = c.in-err-in-order.ensures in
+pub returns-in_err-in_order : goal.returns-in_err-in_order
+returns-in_err-in_order c p q a b =
+    let x = err_from_is_err_and c.from_residual.result c.from_residual.ensures.1 in
+    let told = c.in_err-in_order.ensures in
     let one = length-append c.args.first.now c.args.second.now in
     let two = length-append (text_of p) (text_of q) in
     rw (x.1, x.2, c.in-Pand.is) (told.0, simp length-append (omega (arith, told.1, one, ap length a, ap length b)))

@@ -4,13 +4,13 @@ use Rattle.trees.proofs.Fronts.{front_short, front_full, begins}
 use Rattle.trees.proofs.record.read_record.Goals as goal
 use Rattle.trees.proofs.record.read_record.Goals.{in-default-via-then-bytes-lt3, in-default-via-else-bytes-lt3+then-bytes-lt4+in-default·, in-default-via-else-bytes-lt3+else-bytes-lt4+in-default·}
 
-pub returns-in-err-record-of : goal.returns-in-err-record-of
-returns-in-err-record-of c =
-    let p = err_from_is_err_and c.from-residual.result c.from-residual.ensures.1 in
-    rw (p.1, p.2) (c.in-err-record-of.ensures.0, λ r rest f. ⊎_elim (λ s. omega (arith, tests)) (λ s. omega (arith, tests, c.in-err-record-of.ensures.1)) (begins _ r rest f))
+pub returns-in_err-record_of : goal.returns-in_err-record_of
+returns-in_err-record_of c =
+    let p = err_from_is_err_and c.from_residual.result c.from_residual.ensures.1 in
+    rw (p.1, p.2) (c.in_err-record_of.ensures.0, λ r rest f. ⊎_elim (λ s. omega (arith, tests)) (λ s. omega (arith, tests, c.in_err-record_of.ensures.1)) (begins _ r rest f))
 
-pub returns-in-ok-record-of : goal.returns-in-ok-record-of
-returns-in-ok-record-of c = front_full c.args.bytes.now _ (search rules) (search rules) c.in-ok-record-of.ensures
+pub returns-in_ok-record_of : goal.returns-in_ok-record_of
+returns-in_ok-record_of c = front_full c.args.bytes.now _ (search rules) (search rules) c.in_ok-record_of.ensures
 
 pub returns-in-6 : goal.returns-in-6
 returns-in-6 c = front_short c.args.bytes.now (search rules) (search rules)

@@ -5,7 +5,7 @@ use Rattle.walkthrough.proofs.holds.drop_under_hold.Goals as goal
 pub returns : goal.returns
 returns g c =
     let all =
-    held_again g.T.Date (state_of c.args.log.now) (state_of c.hold.new.self) (state_of c.drop-before-dropped.new.self) (state_of c.lift-lifted.new.self)
-    c.args.custodian c.in-ok-slip.slip c.args.bytes.now c.drop-before-dropped.result c.in-Ok.holder
-    c.in-ok-slip.ensures.outcome c.drop-before-dropped.ensures.outcome c.in-Ok.ensures.outcome in
+    held_again g.T.Date (state_of c.args.log.now) (state_of c.hold.new.self) (state_of c.drop_before-dropped.new.self) (state_of c.lift-lifted.new.self)
+    c.args.custodian c.in_ok-slip.slip c.args.bytes.now c.drop_before-dropped.result c.in-Ok.holder
+    c.in_ok-slip.ensures.outcome c.drop_before-dropped.ensures.outcome c.in-Ok.ensures.outcome in
     record { refused = all.0; holder = all.1; same = all.2 }

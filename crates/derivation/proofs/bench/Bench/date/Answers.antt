@@ -19,7 +19,7 @@ returns g c =
     let ds = c.args.dating.now in
     let room = length c.args.work.now in
     let o : Evaluated K text ds room c.evaluate.result =
-    subst (λ (x : List ℕ). Evaluated K x ds room c.evaluate.result) c.as-bytes.ensures c.evaluate.ensures.outcome in
+    subst (λ (x : List ℕ). Evaluated K x ds room c.evaluate.result) c.as_bytes.ensures c.evaluate.ensures.outcome in
     let v : TextDated K ds room text c.evaluate.result =
     text_dated K text ds room (λ no. ∥∥₁_elim self.present_whole ⊥_prop (λ w. no (is_text _ text self.few (used_short self.present) w))) c.evaluate.result o in
     record {

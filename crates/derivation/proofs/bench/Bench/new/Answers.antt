@@ -4,8 +4,8 @@ use Rattle.derivation.proofs.Calls.{born, blank_whole, blank_derived}
 use Rattle.derivation.proofs.Lawfuls.{lawful}
 use Rattle.derivation.proofs.bench.Bench.new.Goals as goal
 
-pub invariant-of-result : goal.invariant-of-result
-invariant-of-result c =
+pub invariant_of-result : goal.invariant_of-result
+invariant_of-result c =
     let x = c.never.ensures in
     let y = c.never-2.ensures in
     let few : 0 ≤ 24 = omega arith in (

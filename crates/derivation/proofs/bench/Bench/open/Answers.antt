@@ -14,20 +14,20 @@ use Rattle.derivation.proofs.Calls.{outcome_few}
 use Rattle.derivation.proofs.Lawfuls.{law_open}
 use Rattle.derivation.proofs.bench.Bench.open.Goals as goal
 
-pub returns-in-err-read : goal.returns-in-err-read
-returns-in-err-read c =
+pub returns-in_err-read : goal.returns-in_err-read
+returns-in_err-read c =
     let s = state_of c.args.self.now in
     let bs = c.args.tree.now in
-    let p = err_from_is_err_and c.from-residual.result c.from-residual.ensures.1 in
+    let p = err_from_is_err_and c.from_residual.result c.from_residual.ensures.1 in
     let o : Opened s bs (Err p.0) s =
-    (subst (λ (e : TreeRefusal). Outcome bs (refuses (tree_code e))) (sym p.2) c.in-err-read.ensures.outcome, refl) in
+    (subst (λ (e : TreeRefusal). Outcome bs (refuses (tree_code e))) (sym p.2) c.in_err-read.ensures.outcome, refl) in
     rw p.1 (record { outcome = o; meaning = tt; law = law_open s s bs (Err p.0) o })
 
-pub invariant-of-self : goal.invariant-of-self
-invariant-of-self c =
-    let t = c.in-ok-read.read in
+pub invariant_of-self : goal.invariant_of-self
+invariant_of-self c =
+    let t = c.in_ok-read.read in
     let bs = c.args.tree.now in
-    let is = c.in-ok-read.ensures in
+    let is = c.in_ok-read.ensures in
     let w = is.source.whole in
     let d : Derived (used t.source) (used t.source) = record { from = w.term; to = w.term; begins = w.written; ends = w.written; steps = start } in (
       outcome_few bs _ is.outcome,
@@ -47,7 +47,7 @@ pub returns : goal.returns
 returns c =
     let s = state_of c.args.self.now in
     let bs = c.args.tree.now in
-    let t = c.in-ok-read.read in
+    let t = c.in_ok-read.read in
     let s' = stands true t.events t.source t.source in
-    let o : Opened s bs (Ok tt) s' = (c.in-ok-read.ensures.outcome, refl, refl) in
-    record { outcome = o; meaning = c.in-ok-read.ensures.meaning; law = law_open s s' bs (Ok tt) o }
+    let o : Opened s bs (Ok tt) s' = (c.in_ok-read.ensures.outcome, refl, refl) in
+    record { outcome = o; meaning = c.in_ok-read.ensures.meaning; law = law_open s s' bs (Ok tt) o }

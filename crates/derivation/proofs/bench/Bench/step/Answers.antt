@@ -23,23 +23,23 @@ returns-then-not-self c =
     let o : Stepped s bs (Err NoTree) s = (no_tree (s.opened ≡ true) s.present s.events bs (λ o. both_ways s.opened c.if-not-self.true o), refl) in
     record { outcome = o; law = law_step s s bs (Err NoTree) o }
 
-pub returns-in-err-text : goal.returns-in-err-text
-returns-in-err-text c =
+pub returns-in_err-text : goal.returns-in_err-text
+returns-in_err-text c =
     let s = state_of c.args.self.now in
     let bs = c.args.bytes.now in
-    let p = err_from_is_err_and c.from-residual.result c.from-residual.ensures.1 in
+    let p = err_from_is_err_and c.from_residual.result c.from_residual.ensures.1 in
     let why : Refused step_code (StepAsks (Unit {0}) s.present s.events bs) p.0 =
-    subst (Refused step_code (StepAsks (Unit {0}) s.present s.events bs)) (sym p.2) c.in-err-text.ensures.answer in
+    subst (Refused step_code (StepAsks (Unit {0}) s.present s.events bs)) (sym p.2) c.in_err-text.ensures.answer in
     let o : Stepped s bs (Err p.0) s = (answer_with_tree (s.opened ≡ true) s.present s.events bs c.if-not-self.false (Err p.0) why, refl) in
     rw p.1 (record { outcome = o; law = law_step s s bs (Err p.0) o })
 
-pub invariant-of-self-2 : goal.invariant-of-self-2
-invariant-of-self-2 c =
+pub invariant_of-self-2 : goal.invariant_of-self-2
+invariant_of-self-2 c =
     let old = c.args.self.now in
     let bs = c.args.bytes.now in
-    let is = c.in-ok-text.ensures in
+    let is = c.in_ok-text.ensures in
     let s = state_of old in
-    let o = answer_with_tree (s.opened ≡ true) s.present s.events bs c.if-not-self.false (Ok (used c.in-ok-text.text)) is.answer in (
+    let o = answer_with_tree (s.opened ≡ true) s.present s.events bs c.if-not-self.false (Ok (used c.in_ok-text.text)) is.answer in (
       old.few,
       (
         old.source_whole,
@@ -58,8 +58,8 @@ returns c =
     let old = c.args.self.now in
     let s = state_of old in
     let bs = c.args.bytes.now in
-    let is = c.in-ok-text.ensures in
-    let s' = stands old.opened old.events old.source c.in-ok-text.text in
-    let w = answer_with_tree (s.opened ≡ true) s.present s.events bs c.if-not-self.false (Ok (used c.in-ok-text.text)) is.answer in
+    let is = c.in_ok-text.ensures in
+    let s' = stands old.opened old.events old.source c.in_ok-text.text in
+    let w = answer_with_tree (s.opened ≡ true) s.present s.events bs c.if-not-self.false (Ok (used c.in_ok-text.text)) is.answer in
     let o : Stepped s bs (Ok tt) s' = (w.0, w.1, refl) in
     record { outcome = o; law = law_step s s' bs (Ok tt) o }

@@ -12,33 +12,33 @@ use Rattle.derivation.proofs.bench.Bench.step_all.Goals.{In-Some}
 
 begins : (c : In-Some) → Begins c.loop-bytes.left.now c.in-Some.bytes.now c.in-Some.rest.now
 begins c =
-    next_some c.loop-bytes.step _ c.next-record.result c.in-ok-bytes.field-0 (c.in-Some.bytes, c.in-Some.rest)
-    c.next-record.ensures.next (sym c.at-step.ensures ∙ c.in-ok-bytes.was) c.in-Some.is
+    next_some c.loop-bytes.step _ c.next_record.result c.in_ok-bytes.field-0 (c.in-Some.bytes, c.in-Some.rest)
+    c.next_record.ensures.next (sym c.at_step.ensures ∙ c.in_ok-bytes.was) c.in-Some.is
 
 pub loop-bytes-init : goal.loop-bytes-init
 loop-bytes-init c = (λ h run. underway_start h c.args.file.now (state_of c.args.self.now) run, omega arith)
 
-pub returns-in-err-bytes : goal.returns-in-err-bytes
-returns-in-err-bytes c h run =
-    let r = c.from-residual.result in
+pub returns-in_err-bytes : goal.returns-in_err-bytes
+returns-in_err-bytes c h run =
+    let r = c.from_residual.result in
     let s = state_of c.loop-bytes.self in
-    let p = err_from_is_err_and r c.from-residual.ensures.1 in
-    let is : r ≡ Err c.in-err-bytes.field-0.0 = p.1 ∙ ap Err p.2 in
+    let p = err_from_is_err_and r c.from_residual.ensures.1 in
+    let is : r ≡ Err c.in_err-bytes.field-0.0 = p.1 ∙ ap Err p.2 in
     subst (λ (x : Answer StepFault). Made h c.args.file.now x s) (sym is)
     (made_cut h c.args.file.now c.loop-bytes.step c.loop-bytes.left.now s (c.loop-bytes.invariant.0 h run)
-    c.next-record.result _ c.next-record.ensures.next (sym c.at-step.ensures ∙ c.in-err-bytes.was))
+    c.next_record.result _ c.next_record.ensures.next (sym c.at_step.ensures ∙ c.in_err-bytes.was))
 
-pub returns-in-err-at-step : goal.returns-in-err-at-step
-returns-in-err-at-step c h run =
-    let k = (goal.at.returns-in-err-at-step c).In-Some in
-    let r = c.from-residual-in-err-at-step.result in
+pub returns-in_err-at_step : goal.returns-in_err-at_step
+returns-in_err-at_step c h run =
+    let k = (goal.at.returns-in_err-at_step c).In-Some in
+    let r = c.from_residual-in_err-at_step.result in
     let s = state_of c.loop-bytes.self in
     let s' = state_of c.step.new.self in
-    let p = err_from_is_err_and r c.from-residual-in-err-at-step.ensures.1 in
-    let is : r ≡ Err c.in-err-at-step.field-0.0 = p.1 ∙ ap Err p.2 in
+    let p = err_from_is_err_and r c.from_residual-in_err-at_step.ensures.1 in
+    let is : r ≡ Err c.in_err-at_step.field-0.0 = p.1 ∙ ap Err p.2 in
     subst (λ (x : Answer StepFault). Made h c.args.file.now x s') (sym is)
     (made_stopped h c.args.file.now c.loop-bytes.step c.loop-bytes.left.now s (c.loop-bytes.invariant.0 h run)
-    c.in-Some.bytes.now c.in-Some.rest.now c.step.result s' _ (begins k) c.step.ensures.outcome (sym c.at-step-in-Some.ensures ∙ c.in-err-at-step.was))
+    c.in-Some.bytes.now c.in-Some.rest.now c.step.result s' _ (begins k) c.step.ensures.outcome (sym c.at_step-in-Some.ensures ∙ c.in_err-at_step.was))
 
 pub loop-bytes-smaller : goal.loop-bytes-smaller
 loop-bytes-smaller c = shorter _ _ _ (begins (goal.at.loop-bytes-smaller c).In-Some)
@@ -50,11 +50,11 @@ loop-bytes-preserved c =
     let s' = state_of c.step.new.self in (
       λ h run.
           underway_more h c.args.file.now c.loop-bytes.step c.loop-bytes.left.now s (c.loop-bytes.invariant.0 h run)
-          c.in-Some.bytes.now c.in-Some.rest.now c.step.result s' b c.step.ensures.outcome (sym c.at-step-in-Some.ensures ∙ c.in-ok-at-step.was),
+          c.in-Some.bytes.now c.in-Some.rest.now c.step.result s' b c.step.ensures.outcome (sym c.at_step-in-Some.ensures ∙ c.in_ok-at_step.was),
       count_more c.args.file.now c.loop-bytes.left.now _ _ c.loop-bytes.step c.loop-bytes.invariant.1 b,
     )
 
 pub returns : goal.returns
 returns c h run =
     made_ended h c.args.file.now c.loop-bytes.step c.loop-bytes.left.now (state_of c.loop-bytes.self) (c.loop-bytes.invariant.0 h run)
-    c.next-record.result _ c.next-record.ensures.next (sym c.at-step.ensures ∙ c.in-ok-bytes.was) c.in-default.is
+    c.next_record.result _ c.next_record.ensures.next (sym c.at_step.ensures ∙ c.in_ok-bytes.was) c.in-default.is

@@ -18,7 +18,7 @@ returns-in-Some c =
     let found = c.in-Some.ensures in
     let w : Spans s.present place found.0 end = subst (λ (x : List ℕ). Spans x place found.0 end) c.present-text.ensures found.1 in
     let part = spans_part _ place found.0 end found.1 in (
-      term_asked s place (sym c.is-open.ensures ∙ c.if-not-is-open.false) (spans_inside s.present place found.0 end w),
+      term_asked s place (sym c.is_open.ensures ∙ c.if-not-is_open.false) (spans_inside s.present place found.0 end w),
       record { term = found.0; rest = drop end s.present; bytes = part; here = w.here ∙ ap (λ (x : List ℕ). x ++ drop end s.present) (sym part) },
     )
 
@@ -27,6 +27,6 @@ returns-in-None c =
     let self = c.args.self.now in
     let s = state_of self in
     let place = c.args.place in
-    no_place s place (sym c.is-open.ensures ∙ c.if-not-is-open.false)
+    no_place s place (sym c.is_open.ensures ∙ c.if-not-is_open.false)
     (λ h. ∥∥₁_elim self.present_whole ⊥_prop (λ w. past_end _ s.present place w
     (λ t rest e. c.in-None.ensures t rest (subst (λ (x : List ℕ). drop place x ≡ text_of t ++ rest) (sym c.present-text.ensures) e)) h))

@@ -10,11 +10,11 @@ use Rattle.sequences.proofs.row.Row.impossible.Goals as goal
 pub closed-reach-requires : goal.closed-reach-requires
 closed-reach-requires c = λ v w t. weak_low c.args.self.now c.requires v w (subst T (c.weak.ensures v w) t)
 
-pub returns-then-returns-to : goal.returns-then-returns-to
-returns-then-returns-to c =
+pub returns-then-returns_to : goal.returns-then-returns_to
+returns-then-returns_to c =
     let r = c.args.self.now in
     let k : Closes (weak r) (linked c.closed-reach.result.of) = closes_like _ (weak r) _ c.weak.ensures c.closed-reach.ensures in
-    record { yes = λ t. found r _ c.requires k c.loop-v.v (is_T _ (sym c.if-returns-to.ensures)); no = λ i. tt }
+    record { yes = λ t. found r _ c.requires k c.loop-v.v (is_T _ (sym c.if-returns_to.ensures)); no = λ i. tt }
 
 pub loop-v-init : goal.loop-v-init
 unfolding any
@@ -23,7 +23,7 @@ loop-v-init c = refl
 pub loop-v-preserved : goal.loop-v-preserved
 loop-v-preserved c =
     any_next (λ v. any 24 (λ w. precedes c.args.self.now v w && linked c.closed-reach.result.of w v)) c.loop-v.v c.loop-v.invariant
-    (sym c.if-returns-to.ensures)
+    (sym c.if-returns_to.ensures)
 
 pub returns : goal.returns
 returns c =

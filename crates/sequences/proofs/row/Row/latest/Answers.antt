@@ -16,7 +16,7 @@ loop-v-preserved g c =
     let v = c.loop-v.v in
     elim c.if-counts.branch [
       | then-counts w ↦
-          w.best-is ∙ w.later-of-best.ensures
+          w.best-is ∙ w.later_of-best.ensures
           ∙ ap₂ (later K) c.loop-v.invariant (read_at K ds v w.index-dating-v.result (omega (arith, c.requires.dates, c.loop-v-test.true)) w.index-dating-v.is)
           ∙ latest_next K ds p v true (sym w.if-counts.ensures)
       | else-counts w ↦ w.best-is ∙ c.loop-v.invariant ∙ latest_next K ds p v false (sym w.if-counts.ensures)

@@ -8,13 +8,13 @@ use Rattle.sequences.proofs.row.Row.meets.Goals as goal
 pub loop-v-init : goal.loop-v-init
 loop-v-init g c = all_none _
 
-pub returns-then-not-meets-from : goal.returns-then-not-meets-from
-returns-then-not-meets-from g c =
+pub returns-then-not-meets_from : goal.returns-then-not-meets_from
+returns-then-not-meets_from g c =
     let K = g.D.Date.kind in
     let d = dating_of K c.args.dating.now in
     let row = c.args.self.now in
     let p : ℕ → Bool = λ v. all 24 (λ w. pair_meets K row v w (d v) (d w)) in
-    all_fails 24 p c.loop-v.v c.loop-v-test.true (sym c.meets-from.ensures ∙ c.if-not-meets-from.true)
+    all_fails 24 p c.loop-v.v c.loop-v-test.true (sym c.meets_from.ensures ∙ c.if-not-meets_from.true)
 
 pub loop-v-preserved : goal.loop-v-preserved
 loop-v-preserved g c =
@@ -22,4 +22,4 @@ loop-v-preserved g c =
     let d = dating_of K c.args.dating.now in
     let row = c.args.self.now in
     let p : ℕ → Bool = λ v. all 24 (λ w. pair_meets K row v w (d v) (d w)) in
-    all_next p c.loop-v.v c.loop-v.invariant (sym c.meets-from.ensures ∙ c.if-not-meets-from.false)
+    all_next p c.loop-v.v c.loop-v.invariant (sym c.meets_from.ensures ∙ c.if-not-meets_from.false)

@@ -7,8 +7,8 @@ use Rattle.sequences.proofs.row.Row.meets_from.Goals as goal
 pub loop-w-init : goal.loop-w-init
 loop-w-init g c = all_none _
 
-pub returns-then-not-pair-meets : goal.returns-then-not-pair-meets
-returns-then-not-pair-meets g c =
+pub returns-then-not-pair_meets : goal.returns-then-not-pair_meets
+returns-then-not-pair_meets g c =
     let K = g.D.Date.kind in
     let ds = c.args.dating.now in
     let row = c.args.self.now in
@@ -19,7 +19,7 @@ returns-then-not-pair-meets g c =
     (ap₂ (pair_meets K row v w)
     (sym (read_at K ds v c.index-dating-v.result (omega (arith, c.requires.dates, c.requires.low)) c.index-dating-v.is))
     (sym (read_at K ds w c.index-dating-w.result (omega (arith, c.requires.dates, c.loop-w-test.true)) c.index-dating-w.is))
-    ∙ sym c.pair-meets.ensures ∙ c.if-not-pair-meets.true)
+    ∙ sym c.pair_meets.ensures ∙ c.if-not-pair_meets.true)
 
 pub loop-w-preserved : goal.loop-w-preserved
 loop-w-preserved g c =
@@ -33,4 +33,4 @@ loop-w-preserved g c =
     (ap₂ (pair_meets K row v w)
     (sym (read_at K ds v c.index-dating-v.result (omega (arith, c.requires.dates, c.requires.low)) c.index-dating-v.is))
     (sym (read_at K ds w c.index-dating-w.result (omega (arith, c.requires.dates, c.loop-w-test.true)) c.index-dating-w.is))
-    ∙ sym c.pair-meets.ensures ∙ c.if-not-pair-meets.false)
+    ∙ sym c.pair_meets.ensures ∙ c.if-not-pair_meets.false)

@@ -6,8 +6,8 @@ use Rattle.sequences.proofs.Held.{held_few, held_filled, held_sound, held_possib
 use Rattle.sequences.proofs.Only.{one_closing}
 use Rattle.sequences.proofs.table.Table.close.Goals as goal
 
-pub invariant-of-self : goal.invariant-of-self
-invariant-of-self c =
+pub invariant_of-self : goal.invariant_of-self
+invariant_of-self c =
     let bs = c.args.text.now in
     let x = c.in-Ok.closed in
     let a = c.in-Ok.ensures in (

@@ -11,12 +11,12 @@ use Rattle.sequences.proofs.Held.{date_granted, held_date, no_dating}
 use Rattle.sequences.proofs.Only.{one_date}
 use Rattle.sequences.proofs.table.Table.date.Goals as goal
 
-pub returns-then-not-is-dating : goal.returns-then-not-is-dating
-returns-then-not-is-dating g c =
+pub returns-then-not-is_dating : goal.returns-then-not-is_dating
+returns-then-not-is_dating g c =
     let K = g.D.Date.kind in
     let ds = c.args.dating.now in
     let t = c.args.self.now in
-    let why = no_dating ds (λ e. both_ways _ c.if-not-is-dating.true (c.is-dating.ensures.1 e)) in
+    let why = no_dating ds (λ e. both_ways _ c.if-not-is_dating.true (c.is_dating.ensures.1 e)) in
     record { outcome = why; only = λ s h. one_date K ds t (Err NoDating) s why h; earliest = tt; keeps = tt }
 
 pub returns : goal.returns
@@ -24,7 +24,7 @@ returns g c =
     let K = g.D.Date.kind in
     let ds = c.args.dating.now in
     let t = c.args.self.now in
-    let why : TableDated K ds t (Ok c.earliest.result) = (date_granted ds (c.is-dating.ensures.0 c.if-not-is-dating.false), c.earliest.ensures) in
+    let why : TableDated K ds t (Ok c.earliest.result) = (date_granted ds (c.is_dating.ensures.0 c.if-not-is_dating.false), c.earliest.ensures) in
     record {
       outcome = why;
       only = λ s h. one_date K ds t (Ok c.earliest.result) s why h;

@@ -29,7 +29,7 @@ loop-k-preserved g c =
     let k = c.loop-k.k - 1 in
     let low : k < t.len = omega (arith, c.loop-k.auto.k) in
     let up : c.loop-k.k ≡ suc k = omega arith in
-    c.earlier-of-earliest.ensures
+    c.earlier_of-earliest.ensures
     ∙ ap₂ (joined K Or) c.date.ensures c.loop-k.invariant
     ∙ ap (λ (n : ℕ). joined K Or (row_date K d (row_at t k)) (table_date K d (drop n (held t)))) up
     ∙ table_next K ds t.rows t.len k low (omega (arith, held_length t))

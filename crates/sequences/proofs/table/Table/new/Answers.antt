@@ -3,8 +3,8 @@ use Rattle.sequences.specs.declared.row.Row.{Row}
 use Rattle.sequences.proofs.Padded.{padded_none}
 use Rattle.sequences.proofs.table.Table.new.Goals as goal
 
-pub invariant-of-result : goal.invariant-of-result
-invariant-of-result c = (
+pub invariant_of-result : goal.invariant_of-result
+invariant_of-result c = (
   omega arith,
   (
     ap (λ (x : Row). replicate 64 x) c.blank.ensures ∙ sym (padded_none 64),

@@ -1,14 +1,14 @@
-use Rattle.std.proofs.Common.{◌≡◌, ℕ, ◌+◌, ◌<◌, ◌≤◌, List, ◌++◌, length, take, sym, refl, ap, ◌∙◌, arith, length-set, rules, tests}
+use Rattle.std.proofs.Common.{◌≡◌, ℕ, ◌<◌, List, ◌++◌, length, sym, refl, ap, ◌∙◌, arith, length-set, rules, tests}
 use borrow.Author.Tests.{clash}
 use Rattle.std.proofs.lemmas.List.{take_all, length-take-le, length-append}
 use Rattle.texts.specs.Held.{used}
 use Rattle.texts.proofs.Grow.{still_filled, one_more}
 use Rattle.texts.proofs.text.Text.append.Goals as goal
 
-pub invariant-of-self : goal.invariant-of-self
-invariant-of-self c =
+pub invariant_of-self : goal.invariant_of-self
+invariant_of-self c =
     let room : c.loop-b.self.len < 511 = search rules in
-    (omega arith, (still_filled c.loop-b.self _ room, tt))
+    record { short = omega arith; filled = still_filled c.loop-b.self _ room }
 
 pub loop-b-preserved : goal.loop-b-preserved
 loop-b-preserved c =
@@ -20,8 +20,8 @@ loop-b-preserved c =
       front = one_more c.args.self.now c.loop-b.self c.args.more.now c.loop-b.b-index g (omega arith) room;
     }
 
-pub returns-then-not-has-room : goal.returns-then-not-has-room
-returns-then-not-has-room c =
+pub returns-then-not-has_room : goal.returns-then-not-has_room
+returns-then-not-has_room c =
     let old = c.args.self.now in
     let size : length old.bytes ≡ 511 = search rules in
     record {

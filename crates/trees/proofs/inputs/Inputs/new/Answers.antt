@@ -10,7 +10,7 @@ loop-e-init c = (refl, slots_none)
 pub loop-e-preserved : goal.loop-e-preserved
 loop-e-preserved c =
     let inv = c.loop-e.invariant in
-    (length-set _ _ _ ∙ inv.0, slots_letter c.loop-e.texts c.loop-e.e c.from.result c.letter-text.result (omega (arith, inv.0)) c.from.ensures c.letter-text.ensures inv.1)
+    (length-set _ _ _ ∙ inv.0, slots_letter c.loop-e.texts c.loop-e.e c.from.result c.letter_text.result (omega (arith, inv.0)) c.from.ensures c.letter_text.ensures inv.1)
 
 pub returns : goal.returns
 returns c =
