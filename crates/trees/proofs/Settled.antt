@@ -2,7 +2,7 @@
 -- Assumes nothing.
 use Rattle.std.proofs.Common.{◌≡◌, ℕ, ◌+◌, ◌<◌, ◌≤◌, Bool, true, false, cond, ◌&&◌, eqb, ltb, ◌⊎◌, List, [], ◌∷◌, length, Some, None, Option, sym, refl, ap, ◌∙◌, inl, inr, ⊎_elim, arith}
 use Rattle.std.proofs.lemmas.Bool.{ne_eqb, eq-eqb, or_left, or_right, or_parts, both_ways, leb-false, cond-true, cond-false, cases_lt, cases_Bool, eqb-true}
-use Rattle.algebra.specs.Terms.{Term, leaf}
+use Rattle.algebra.specs.Terms.{Term}
 use Rattle.algebra.specs.Texts.{text_of}
 use Rattle.trees.specs.declared.record.Gate.{Gate}
 use Rattle.trees.specs.declared.record.Record.{Record}
