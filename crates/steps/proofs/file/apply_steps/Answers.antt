@@ -71,7 +71,7 @@ pub returns : goal.returns
 returns c =
     record {
       run = run_ended c.args.events c.args.text c.args.file.now c.loop-bytes.progress.step c.loop-bytes.progress.present _ c.loop-bytes.invariant
-          c.next_record.result _ c.next_record.ensures.next (sym c.at_step.ensures ∙ c.in_ok-bytes.was) c.in-default.is;
+          c.next_record.result _ c.next_record.ensures.next (sym c.at_step.ensures ∙ c.in_ok-bytes.was) c.in_default.is;
       one = one_run c.args.events (used c.args.text) c.args.file.now;
       whole = c.loop-bytes.invariant.whole;
       derived = c.loop-bytes.invariant.derived;

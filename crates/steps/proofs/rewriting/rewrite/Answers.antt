@@ -7,7 +7,7 @@ use Rattle.steps.specs.Sides.{Fitted, side_text}
 use Rattle.steps.specs.Rewrites.{Provided}
 use Rattle.steps.proofs.Merge.{Both, merged, all_bound, complete, long_front, long_side, long_rest}
 use Rattle.steps.proofs.rewriting.rewrite.Goals as goal
-use Rattle.steps.proofs.rewriting.rewrite.Goals.{After-append, else-append-via-then-append+then-append-side+else-append-2, else-append-via-then-append+else-append_side, else-append-via-else-append}
+use Rattle.steps.proofs.rewriting.rewrite.Goals.{After-append, else-append-via-then-append+then-append_side+else-append-2, else-append-via-then-append+else-append_side, else-append-via-else-append}
 
 pub returns-in-default : goal.returns-in-default
 returns-in-default c s t a b sup σ rest m = c.in-default.ensures s a σ rest (take_rest c.args.old.now c.args.place ∙ m)
@@ -36,7 +36,7 @@ returns-else-append c s t a b sup =
     let bound = all_bound s t _ c.in-Some.walk.bound c.args.supplied _ _ (fitted k s a) sup c.or-bound.ensures in
     let two = both k s t a sup in
     elim c.else-append.branch [
-      | else-append-via-then-append+then-append-side+else-append-2 w ↦
+      | else-append-via-then-append+then-append_side+else-append-2 w ↦
           long_rest old c.args.place s t c.or-bound.result c.args.supplied _ _ _ _ two c.empty-new.ensures front _ w.if-append.ensures.added (w.if-append_side.ensures t b bound) w.if-append-2.ensures.added
       | else-append-via-then-append+else-append_side w ↦
           long_side old c.args.place s t c.or-bound.result c.args.supplied _ _ _ _ two c.empty-new.ensures front w.if-append.ensures.added (w.if-append_side.ensures t b bound)
