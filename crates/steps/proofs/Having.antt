@@ -23,7 +23,7 @@ has_split (y ∷ xs) ys x (suc k, h, at) =
     elim (has_split xs ys x (k, omega arith, at)) [ inl p ↦ inl (has_more y xs x p) | inr p ↦ inr p ]
 
 has_in : (v : Variable) (s : Term Variable) → has v s ≡ true → Contains (side_text s) (variable_byte v)
-has_in v (leaf u) e = (zero, omega arith, λ d. sym (eqb-true (variable_byte v) (variable_byte u) e))
+has_in v (leaf u) e = (zero, omega arith, sym (eqb-true (variable_byte v) (variable_byte u) e))
 has_in v never e = let z : ◌≡◌ {A = ℕ} 0 1 = cc in absurd (omega arith)
 has_in v (node o l r) e =
     has_more _ (side_text l ++ side_text r) (variable_byte v)
@@ -33,11 +33,11 @@ has_in v (node o l r) e =
     ])
 
 in_has : (v : Variable) (s : Term Variable) → Contains (side_text s) (variable_byte v) → has v s ≡ true
-in_has v (leaf u) (zero, h, at) = eq-eqb (variable_byte v) (variable_byte u) (sym (at 0))
+in_has v (leaf u) (zero, h, at) = eq-eqb (variable_byte v) (variable_byte u) (sym at)
 in_has v (leaf u) (suc k, h, at) = absurd (omega arith)
-in_has v never (zero, h, at) = absurd (not_never v (sym (at 0)))
+in_has v never (zero, h, at) = absurd (not_never v (sym at))
 in_has v never (suc k, h, at) = absurd (omega arith)
-in_has v (node o l r) (zero, h, at) = absurd (apart v o (sym (at 0)))
+in_has v (node o l r) (zero, h, at) = absurd (apart v o (sym at))
 in_has v (node o l r) (suc k, h, at) =
     elim (has_split (side_text l) (side_text r) (variable_byte v) (k, omega arith, at)) [
       | inl p ↦ or_left (has v l) (has v r) (in_has v l p)

@@ -7,10 +7,10 @@ use Rattle.steps.proofs.Taken.{new_term_lem}
 use Rattle.steps.proofs.matching.bind.Goals as goal
 use Rattle.std.proofs.lemmas.Bool.Decides.{Decides-eqb}
 
-pub returns-in_ok-end : goal.returns-in_ok-end
-returns-in_ok-end c =
-    let found = c.in_ok-end.ensures in
-    new_term_lem c.args.bound c.args.text.now c.in_ok-end.end found.0 c.in-None.is found.1
+pub returns-in_ok-end-in-None : goal.returns-in_ok-end-in-None
+returns-in_ok-end-in-None c =
+    let found = c.in_ok-end-in-None.ensures in
+    new_term_lem c.args.bound c.args.text.now c.in_ok-end-in-None.end found.0 c.in-None.is found.1
 
 pub returns-then-starts_with : goal.returns-then-starts_with
 returns-then-starts_with c =

@@ -1,5 +1,5 @@
 use Rattle.std.proofs.Common.{ℕ, Bool, eqb, List, Decides, Contains, sym, subst}
-use Rattle.std.proofs.lemmas.List.Elements.{contains_decides}
+use Rattle.std.proofs.lemmas.List.Elements.{contains_decides, Decides-contains}
 use Rattle.std.proofs.lemmas.Bool.Decides.{same_from_decides, Decides-eqb}
 use Rattle.algebra.specs.Rules.{has, variable_byte}
 use Rattle.steps.proofs.Having.{decides_has}
@@ -8,7 +8,9 @@ use Rattle.steps.proofs.rewriting.has_letter.Goals as goal
 pub returns : goal.returns
 returns c s is =
     let r = c.contains.result in
-    let found = contains_decides eqb Decides-eqb c.args.side.now c.variable_byte.result r c.contains.ensures.cases in
+    let found =
+    Decides-contains c.args.side.now c.variable_byte.result r
+    (contains_decides eqb Decides-eqb c.args.side.now c.variable_byte.result r c.contains.ensures.cases) in
     same_from_decides r (has c.args.letter s)
     (subst (λ (l : List ℕ). Decides r (Contains l (variable_byte c.args.letter))) is (subst (λ (n : ℕ). Decides r (Contains c.args.side.now n)) c.variable_byte.ensures found))
     (decides_has c.args.letter s)

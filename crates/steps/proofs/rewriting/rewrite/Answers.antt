@@ -9,8 +9,8 @@ use Rattle.steps.proofs.Merge.{Both, merged, all_bound, complete, long_front, lo
 use Rattle.steps.proofs.rewriting.rewrite.Goals as goal
 use Rattle.steps.proofs.rewriting.rewrite.Goals.{After-append, else-append-via-then-append+then-append_side+else-append-2, else-append-via-then-append+else-append_side, else-append-via-else-append}
 
-pub returns-in-default : goal.returns-in-default
-returns-in-default c s t a b sup σ rest m = c.in-default.ensures s a σ rest (take_rest c.args.old.now c.args.place ∙ m)
+pub returns-in_default : goal.returns-in_default
+returns-in_default c s t a b sup σ rest m = c.in_default.ensures s a σ rest (take_rest c.args.old.now c.args.place ∙ m)
 
 fitted : (c : After-append) (s : Term Variable) → c.args.from.now ≡ side_text s → Fitted s (drop c.args.place c.args.old.now) c.in-Some.walk.bound c.after-rest.result.now
 fitted c s a =
