@@ -1,10 +1,10 @@
 -- The answer to a step, case by case, and that there is only one.
 -- Assumes nothing.
-use Rattle.std.proofs.Common.{◌≡◌, ℕ, ◌<◌, ◌≤◌, Bool, true, false, cond, not, ◌&&◌, eqb, List, ◌++◌, length, drop, is_some, IfOk, Some, None, Ok, Err, Option, Result, sym, refl, ap, ◌∙◌, subst, arith, Bor}
+use Rattle.std.proofs.Common.{◌≡◌, ℕ, ◌<◌, ◌≤◌, Bool, true, false, cond, not, ◌&&◌, eqb, List, length, is_some, IfOk, Some, None, Ok, Err, Option, Result, sym, refl, ap, ◌∙◌, subst, arith, Bor}
 use Rattle.algebra.specs.Refusals.{Refused, Granted, Answers}
 use Rattle.algebra.specs.Steps.{Derived}
 use Rattle.algebra.specs.Terms.{Term}
-use Rattle.algebra.specs.Texts.{text_of, Whole}
+use Rattle.algebra.specs.Texts.{Whole}
 use Rattle.algebra.specs.Rules.{has}
 use Rattle.algebra.specs.declared.Variable.{Variable}
 use Rattle.algebra.specs.declared.Variable.TheVariants.{X, Y, Z}
@@ -15,7 +15,7 @@ use Rattle.texts.proofs.Grow.{used_short}
 use Rattle.steps.specs.Refusals.{step_code}
 use Rattle.steps.specs.Records.{Request, Says, WholeTerm, supplied_for}
 use Rattle.steps.specs.Readings.{bytes_of, request_of}
-use Rattle.steps.specs.Sides.{slot, Holds, Agrees, Matches}
+use Rattle.steps.specs.Sides.{slot, Holds}
 use Rattle.steps.specs.Rewrites.{OfTerm, Provided, Instance, Rewritten}
 use Rattle.steps.specs.Stepping.{Fits, SuppliesLacked, Spells, StepAsks, StepMakes, StepAnswer, OneAnswer, StepsOn, text_in, old_of, new_of}
 use Rattle.steps.specs.declared.record.StepRecord.{StepRecord}

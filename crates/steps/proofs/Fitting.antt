@@ -1,12 +1,12 @@
 -- A rule that fits makes one text, of letters of the tree, and by one step of the sheet.
 -- Assumes nothing.
-use Rattle.std.proofs.Common.{◌≡◌, ℕ, ◌+◌, ◌<◌, ◌≤◌, Bool, true, false, not, ◌&&◌, ◌||◌, ◌⊎◌, List, [], ◌∷◌, ◌++◌, length, take, drop, is_some, Some, None, All, Option, sym, refl, ap, ◌∙◌, subst, inl, inr, arith, eqb-true}
+use Rattle.std.proofs.Common.{◌≡◌, ℕ, ◌+◌, ◌<◌, ◌≤◌, Bool, true, false, not, ◌&&◌, List, ◌++◌, length, take, drop, is_some, Some, None, Option, sym, refl, ap, ◌∙◌, subst, inl, inr, arith, eqb-true}
 use Rattle.std.proofs.lemmas.List.Elements.{All-append, All-take, All-drop}
 use Rattle.std.proofs.lemmas.Bool.{eq-eqb, cases_Bool}
 use Rattle.algebra.specs.Terms.{Term, leaf, never, node, inst, Among}
 use Rattle.algebra.specs.Texts.{text_of, Whole}
-use Rattle.algebra.specs.Rules.{variable_byte, has, numbered}
-use Rattle.algebra.specs.Steps.{Step, Derived}
+use Rattle.algebra.specs.Rules.{variable_byte, has}
+use Rattle.algebra.specs.Steps.{Derived}
 use Rattle.algebra.specs.declared.Variable.{Variable}
 use Rattle.algebra.proofs.Bytes.{one_text, same_term, puts_terms}
 use Rattle.algebra.proofs.Derived.{steps_derive}

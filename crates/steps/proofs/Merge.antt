@@ -1,6 +1,6 @@
 -- The matched terms and the supplied terms together, and the new text in three parts.
 -- Assumes nothing.
-use Rattle.std.proofs.Common.{◌≡◌, ℕ, ◌+◌, ◌<◌, Bool, true, false, not, ◌&&◌, ◌||◌, eqb, List, [], ◌++◌, length, take, drop, is_some, Some, None, Option, sym, refl, ap, ◌∙◌, subst, append_assoc, arith, length-append, Bor}
+use Rattle.std.proofs.Common.{◌≡◌, ℕ, ◌<◌, Bool, true, false, List, [], ◌++◌, length, take, drop, is_some, Some, None, Option, sym, refl, ap, ◌∙◌, subst, append_assoc, arith, length-append, Bor}
 use Rattle.std.proofs.lemmas.Bool.{eq-eqb}
 use Rattle.algebra.specs.Terms.{Term, leaf, never, node, inst}
 use Rattle.algebra.specs.Texts.{text_of}

@@ -1,13 +1,13 @@
 -- The steps of a file, one after the other.
 -- Assumes nothing.
-use Rattle.std.proofs.Common.{◌≡◌, ℕ, ◌+◌, ◌-◌, ◌*◌, ◌<◌, ◌≤◌, List, [], ◌∷◌, ◌++◌, length, get_or, take, drop, IfOk, Some, None, Ok, Err, Option, Result, sym, refl, ap, ◌∙◌, subst, arith, Bor}
+use Rattle.std.proofs.Common.{◌≡◌, ℕ, ◌+◌, ◌-◌, ◌*◌, ◌<◌, ◌≤◌, List, [], ◌∷◌, ◌++◌, length, take, drop, IfOk, Some, None, Ok, Err, Option, Result, sym, refl, ap, ◌∙◌, subst, arith, Bor}
 use Rattle.std.proofs.lemmas.List.{take_at, drop_at, length-append}
 use Rattle.algebra.specs.Steps.{Derived}
 use Rattle.algebra.specs.Texts.{Whole}
 use Rattle.texts.specs.Held.{used}
 use Rattle.texts.specs.declared.text.Text.{Text}
 use Rattle.steps.specs.Files.{Begins, CutOff, NextRecord, OneRecord, OneRun, Runs, ended, went, refused, cut, fault_at, answer_at}
-use Rattle.steps.specs.Stepping.{StepAnswer, OneAnswer, text_in}
+use Rattle.steps.specs.Stepping.{StepAnswer, text_in}
 use Rattle.steps.specs.declared.file.StepFault.{StepFault}
 use Rattle.steps.specs.declared.refusal.StepRefusal.{StepRefusal}
 use Rattle.steps.specs.declared.refusal.StepRefusal.TheVariants.{Form}

@@ -1,6 +1,6 @@
 -- A side written symbol by symbol.
 -- Assumes nothing.
-use Rattle.std.proofs.Common.{◌≡◌, ℕ, ◌+◌, ◌<◌, ◌≤◌, Bool, true, false, ◌||◌, eqb, ◌⊎◌, List, [], ◌∷◌, ◌++◌, length, get_or, drop, is_some, Some, None, Option, sym, refl, ap, ◌∙◌, subst, inl, inr, append_assoc, append-nil, arith, length-append, Bor}
+use Rattle.std.proofs.Common.{◌≡◌, ℕ, ◌+◌, ◌<◌, Bool, true, false, ◌||◌, eqb, List, [], ◌∷◌, ◌++◌, length, get_or, drop, is_some, Some, None, Option, sym, refl, ap, ◌∙◌, subst, inl, inr, append_assoc, append-nil, arith, length-append, Bor}
 use Rattle.std.proofs.lemmas.Bool.{eq-eqb}
 use Rattle.std.proofs.lemmas.List.{drop_more}
 use Rattle.algebra.specs.Terms.{Term, leaf, never, node, inst}
@@ -9,7 +9,7 @@ use Rattle.algebra.specs.Rules.{variable_byte, has}
 use Rattle.algebra.specs.declared.Variable.{Variable}
 use Rattle.texts.specs.Held.{Added}
 use Rattle.steps.specs.Sides.{side_text, slot, Holds, Agrees}
-use Rattle.steps.specs.Rewrites.{Bound, Piece}
+use Rattle.steps.specs.Rewrites.{Piece}
 use Rattle.steps.specs.declared.binding.Binding.{Binding}
 use Rattle.steps.proofs.Taken.{same_letter, prints, said, has_any, apart, not_never, or_end, or_assoc}
 

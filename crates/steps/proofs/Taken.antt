@@ -1,6 +1,6 @@
 -- A side's symbols beside a text, one after the other.
 -- Assumes nothing.
-use Rattle.std.proofs.Common.{◌≡◌, ℕ, ◌+◌, ◌-◌, ◌<◌, ◌≤◌, Bool, true, false, ◌||◌, eqb, ◌⊎◌, List, [], ◌∷◌, ◌++◌, length, get_or, take, drop, is_some, Some, None, Option, sym, refl, ap, ◌∙◌, subst, inl, inr, ⊎_elim, append_assoc, append-nil, arith, length-append, length-drop, Bor}
+use Rattle.std.proofs.Common.{◌≡◌, ℕ, ◌+◌, ◌-◌, ◌<◌, Bool, true, false, ◌||◌, eqb, ◌⊎◌, List, [], ◌∷◌, ◌++◌, length, get_or, take, drop, is_some, Some, None, Option, sym, refl, ap, ◌∙◌, subst, inl, inr, ⊎_elim, append_assoc, append-nil, arith, length-append, length-drop, Bor}
 use Rattle.std.proofs.lemmas.Bool.{eq-eqb, ne_eqb, cases_eq}
 use Rattle.std.proofs.lemmas.List.{append_cancel_left, take_at, take_rest, drop_more}
 use Rattle.algebra.specs.Terms.{Term, leaf, never, node, inst}
@@ -14,7 +14,7 @@ use Rattle.algebra.specs.declared.Variable.TheVariants.{X, Y, Z}
 use Rattle.algebra.proofs.Bytes.{one_text}
 use Rattle.texts.specs.Spans.{Spans}
 use Rattle.steps.specs.Sides.{side_text, slot, Holds, Takes, Agrees, Matches, Fitted}
-use Rattle.steps.specs.Walks.{Letter, Plain, Took, Stuck}
+use Rattle.steps.specs.Walks.{Plain, Took, Stuck}
 use Rattle.steps.specs.declared.binding.Binding.{Binding}
 use Rattle.steps.specs.declared.matching.Walk.{Walk}
 

@@ -1,4 +1,4 @@
-use Rattle.std.proofs.Common.{ℕ, ◌-◌, ◌<◌, ◌≤◌, length, get_or, take, drop, refl, inl, inr, arith, rules, tests}
+use Rattle.std.proofs.Common.{◌-◌, ◌≤◌, length, get_or, take, drop, refl, inl, inr, arith, rules, tests}
 use Rattle.std.proofs.lemmas.List.{nil_from_length}
 use Rattle.std.proofs.lemmas.Bool.Decides.{not_from_Decides}
 use Rattle.std.proofs.lemmas.Bool.{cases_lt}

@@ -1,4 +1,4 @@
-use Rattle.std.proofs.Common.{ℕ, List, [], length, drop, sym, ap, subst, arith}
+use Rattle.std.proofs.Common.{ℕ, List, subst, arith}
 use Rattle.std.proofs.lemmas.List.{drop_all}
 use Rattle.steps.proofs.Taken.{Sofar, start, again, never_fits, done}
 use Rattle.steps.proofs.matching.fit.Goals as goal

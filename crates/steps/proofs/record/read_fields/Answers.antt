@@ -1,8 +1,7 @@
-use Rattle.std.proofs.Common.{◌≡◌, ℕ, List, length, sym, refl, ap, ◌∙◌, arith, tests, eqb-true}
+use Rattle.std.proofs.Common.{length, sym, refl, ap, arith, eqb-true}
 use borrow.Author.Tests.{eqb-false}
 use Rattle.std.proofs.lemmas.List.{nil_from_length}
 use Rattle.std.proofs.lemmas.Result.{err_from_is_err_and}
-use Rattle.steps.specs.Readings.{request_of}
 use Rattle.steps.proofs.Fields.{remaining_all, remaining_more, remaining_none, remaining_done, remaining_left}
 use Rattle.steps.proofs.record.read_fields.Goals as goal
 

@@ -1,4 +1,4 @@
-use Rattle.std.proofs.Common.{◌-◌, ◌<◌, ◌≤◌, length, get_or, take, drop, refl, arith, rules}
+use Rattle.std.proofs.Common.{◌-◌, ◌≤◌, length, get_or, take, drop, refl, arith, rules}
 use Rattle.std.proofs.lemmas.Slice.{first_rest}
 use Rattle.std.proofs.lemmas.Bool.Decides.{not_from_Decides}
 use Rattle.steps.proofs.Fields.{supply_read, supply_none}

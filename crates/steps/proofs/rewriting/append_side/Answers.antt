@@ -1,4 +1,4 @@
-use Rattle.std.proofs.Common.{◌≡◌, ℕ, List, [], length, get_or, drop, sym, subst, arith}
+use Rattle.std.proofs.Common.{ℕ, List, subst, arith}
 use Rattle.std.proofs.lemmas.List.{drop_all}
 use Rattle.texts.specs.Held.{used}
 use Rattle.steps.proofs.Spelt.{Spelt, spelt_none, spelt_more, spelt_full, spelt_all}

@@ -1,4 +1,4 @@
-use Rattle.std.proofs.Common.{ℕ, Bool, eqb, List, Decides, Contains, sym, subst}
+use Rattle.std.proofs.Common.{ℕ, eqb, List, Decides, Contains, subst}
 use Rattle.std.proofs.lemmas.List.Elements.{contains_decides, Decides-contains}
 use Rattle.std.proofs.lemmas.Bool.Decides.{same_from_decides, Decides-eqb}
 use Rattle.algebra.specs.Rules.{has, variable_byte}

@@ -1,4 +1,4 @@
-use Rattle.std.proofs.Common.{ℕ, ◌-◌, ◌<◌, arith}
+use Rattle.std.proofs.Common.{◌-◌, ◌<◌, arith}
 use Rattle.algebra.specs.Rules.{sheet, lines}
 use Rattle.steps.proofs.Tables.{right_of, sheet_right}
 use Rattle.steps.proofs.rules.right.Goals as goal

@@ -1,12 +1,10 @@
-use Rattle.std.proofs.Common.{◌≡◌, ℕ, ◌<◌, ◌≤◌, List, length, Ok, Err, Result, sym, refl, ap, ◌∙◌, subst, arith}
+use Rattle.std.proofs.Common.{◌≡◌, ℕ, ◌<◌, ◌≤◌, List, length, Err, sym, ap, ◌∙◌, subst, arith}
 use Rattle.std.proofs.lemmas.Result.{err_from_is_err_and}
 use Rattle.std.proofs.lemmas.Bool.Decides.{not_from_Decides}
 use Rattle.texts.specs.Held.{used}
-use Rattle.texts.specs.declared.text.Text.{Text}
 use Rattle.steps.specs.Readings.{request_of}
 use Rattle.steps.specs.Rewrites.{Rewritten}
 use Rattle.steps.specs.Stepping.{old_of, new_of}
-use Rattle.steps.specs.declared.refusal.StepRefusal.{StepRefusal}
 use Rattle.steps.specs.declared.refusal.StepRefusal.TheVariants.{Form, Supplies, Place}
 use Rattle.steps.proofs.Answering.{Answered, answered, refused, step_one, no_form, no_supply, no_place, provided, tested_lacks, lacks_tested}
 use Rattle.steps.proofs.stepping.apply_step.Goals as goal

@@ -1,4 +1,4 @@
-use Rattle.std.proofs.Common.{ℕ, ◌-◌, List, ◌∷◌, length, take, drop, sym, refl, ap, ◌∙◌, inr, rules}
+use Rattle.std.proofs.Common.{ℕ, ◌-◌, ◌∷◌, length, take, drop, refl, ap, ◌∙◌, inr, rules}
 use Rattle.std.proofs.lemmas.Slice.{first_rest}
 use Rattle.steps.proofs.matching.Walk.step.Goals as goal
 
