@@ -15,7 +15,7 @@ impl Table {
     // The earliest of the rows' dates, the first such row's, and never if there are no rows.
     fn earliest<D: Date>(&self, dating: &[D]) -> D
         requires { length dating.now ≡ 24 }
-        ensures { result ≡ table_date kind (dating_of kind dating.now) (held self.now) }
+        ensures { result ≡ table_date D.kind (dating_of D.kind dating.now) (held self.now) }
     {
         let mut earliest = D::never();
         for k in (0..self.len).rev() {
@@ -26,10 +26,10 @@ impl Table {
 
     // The date of the table under the dating.
     pub fn date<D: Date>(&self, dating: &[D]) -> Result<D, TableRefusal>
-        ensures outcome { TableDated kind dating.now self.now result }
-        ensures only { (s : Result D TableRefusal) → TableDated kind dating.now self.now s → s ≡ result }
-        ensures earliest { IfOk result (λ p. RowsDated kind (dating_of kind dating.now) (held self.now) p) }
-        ensures keeps { IfOk result (λ p. KeepsDateOf kind dating.now self.now p) }
+        ensures outcome { TableDated D.kind dating.now self.now result }
+        ensures only { (s : Result D TableRefusal) → TableDated D.kind dating.now self.now s → s ≡ result }
+        ensures earliest { IfOk result (λ p. RowsDated D.kind (dating_of D.kind dating.now) (held self.now) p) }
+        ensures keeps { IfOk result (λ p. KeepsDateOf D.kind dating.now self.now p) }
     {
         if !is_dating(dating) {
             return Err(TableRefusal::NoDating);

@@ -8,7 +8,7 @@ use Rattle.sequences.specs.declared.scan.Step.{Step}
 use Rattle.sequences.proofs.Padded.{padded_none, padded_blank}
 use Rattle.sequences.proofs.Scanning.{Good, step_good, fits_some, run_next, keeps_none, keeps_some, ends_small}
 use Rattle.sequences.proofs.scan.scan_sum.Goals as goal
-use Rattle.sequences.proofs.scan.scan_sum.Goals.{in-Some, in-default, then-count-lt64, else-count-lt64}
+use Rattle.sequences.proofs.scan.scan_sum.Goals.{in-Some, in_default, then-count-lt64, else-count-lt64}
 
 pub loop-byte-init : goal.loop-byte-init
 loop-byte-init c = (
@@ -54,15 +54,15 @@ loop-byte-preserved c =
               | then-count-lt64 u ↦ keeps_some st g rows count b m keep e w.in-Some.factor rows' count' w.in-Some.is (λ l. w.rows-is ∙ u.rows-is ∙ ap (λ (x : Row). set rows count x) u.enter.ensures) (λ l. absurd (omega arith)) (w.count-is ∙ ap (λ (n : ℕ). count + n) w.ends-count.ensures)
               | else-count-lt64 u ↦ keeps_some st g rows count b m keep e w.in-Some.factor rows' count' w.in-Some.is (λ l. absurd (omega arith)) (λ l. w.rows-is ∙ u.rows-is) (w.count-is ∙ ap (λ (n : ℕ). count + n) w.ends-count.ensures)
             ])
-        | in-default w ↦
+        | in_default w ↦
             subst on (sym (run_next text i h))
             (subst (λ (rs : List Row). Keeps (step st b) m.next rs count') (sym w.rows-is)
-            (subst (λ (n : ℕ). Keeps (step st b) m.next rows n) (sym w.count-is) (keeps_none st g rows count b m keep e w.in-default.is)))
+            (subst (λ (n : ℕ). Keeps (step st b) m.next rows n) (sym w.count-is) (keeps_none st g rows count b m keep e w.in_default.is)))
       ],
       good.ready,
       omega (arith, good.parts, c.loop-byte.invariant.2),
       omega (arith, good.sums, c.loop-byte.invariant.3),
-      elim c.match-step.branch [ in-Some w ↦ omega (arith, w.count-is, w.ends-count.ensures, ends_small g.parts, c.loop-byte.invariant.4) | in-default w ↦ omega (arith, w.count-is, c.loop-byte.invariant.4) ],
+      elim c.match-step.branch [ in-Some w ↦ omega (arith, w.count-is, w.ends-count.ensures, ends_small g.parts, c.loop-byte.invariant.4) | in_default w ↦ omega (arith, w.count-is, c.loop-byte.invariant.4) ],
     )
 
 pub returns : goal.returns

@@ -10,19 +10,7 @@ pub invariant_of-self : goal.invariant_of-self
 invariant_of-self c =
     let bs = c.args.text.now in
     let x = c.in-Ok.closed in
-    let a = c.in-Ok.ensures in (
-      held_few bs x.rows x.len a.0 a.1,
-      (
-        held_filled bs x.rows x.len a.0 a.1,
-        (
-          held_sound bs x.rows x.len a.0 a.1,
-          (
-            held_possible bs x.rows x.len a.0 a.1,
-            (held_happens bs x.rows x.len a.0 a.1, (held_short bs x.rows x.len a.0 a.1, tt)),
-          ),
-        ),
-      ),
-    )
+    let a = c.in-Ok.ensures in record { few = held_few bs x.rows x.len a.0 a.1; filled = held_filled bs x.rows x.len a.0 a.1; sound = held_sound bs x.rows x.len a.0 a.1; possible = held_possible bs x.rows x.len a.0 a.1; happens = held_happens bs x.rows x.len a.0 a.1; short = held_short bs x.rows x.len a.0 a.1 }
 
 pub returns-in-Ok : goal.returns-in-Ok
 returns-in-Ok c =
