@@ -3,7 +3,7 @@
 use Rattle.std.proofs.Common.{◌≡◌, ℕ, zero, suc, ◌+◌, ◌<◌, ◌≤◌, Bool, true, false, ◌⊎◌, ◌↔◌, List, [], ◌∷◌, ◌++◌, map, length, get_or, take, Ok, Err, All, Result, sym, refl, ap, ◌∙◌, subst, inl, inr, arith, length-append}
 use mathlib.Core.Option.{Option, none, some}
 use Rattle.std.proofs.lemmas.List.{length-map, map-append}
-use Rattle.std.proofs.lemmas.List.Elements.{All-append, All-get_or}
+use Rattle.std.proofs.lemmas.List.Elements.{All-nil, All-cons, All-head, All-tail, All-append, All-get_or, All-from_get_or}
 use Rattle.algebra.specs.Kinds.{Kind, Same}
 use Rattle.algebra.specs.Refusals.{Refused, Granted, Answers}
 use Rattle.algebra.specs.Terms.{Term, never}
@@ -49,16 +49,14 @@ one_count bs x y a b = sym (map_length x) ∙ ap length (one_rows bs x y a b) �
 
 -- what holds of each row holds of the row of each sequence
 pub all_rows : (P : Row → Type 0) (x : List (List Factor)) → All (λ fs. P (row_with fs)) x → All P (rows_with x)
-all_rows P [] h = tt
-all_rows P (fs ∷ x) h = (h.0, all_rows P x h.1)
+all_rows P [] h = All-nil P
+all_rows P (fs ∷ x) h =
+    All-cons P (row_with fs) (rows_with x) (All-head (λ gs. P (row_with gs)) fs x h) (all_rows P x (All-tail (λ gs. P (row_with gs)) fs x h))
 
 rows_all : (P : Row → Type 0) (x : List (List Factor)) → All P (rows_with x) → All (λ fs. P (row_with fs)) x
-rows_all P [] h = tt
-rows_all P (fs ∷ x) h = (h.0, rows_all P x h.1)
-
-all_from : (P : Row → Type 0) (rs : List Row) → ((k : ℕ) → k < length rs → P (get_or rs k absent)) → All P rs
-all_from P [] f = tt
-all_from P (r ∷ rs) f = (f 0 (omega arith), all_from P rs (λ k h. f (suc k) (omega arith)))
+rows_all P [] h = All-nil (λ gs. P (row_with gs))
+rows_all P (fs ∷ x) h =
+    All-cons (λ gs. P (row_with gs)) fs x (All-head P (row_with fs) (rows_with x) h) (rows_all P x (All-tail P (row_with fs) (rows_with x) h))
 
 -- the row of a sequence in a text of n bytes
 pub record Proper (n : ℕ) (r : Row) : Type 0 where
@@ -67,16 +65,17 @@ pub record Proper (n : ℕ) (r : Row) : Type 0 where
   pub short : length (line r) ≤ n + 1
 
 longer : (m n : ℕ) (rs : List Row) → m ≤ n → All (Proper m) rs → All (Proper n) rs
-longer m n [] h a = tt
+longer m n [] h a = All-nil (Proper n)
 longer m n (r ∷ rs) h a =
-    let p = a.0 in
-    (record { sound = p.sound; counted = p.counted; short = omega (arith, p.short) }, longer m n rs h a.1)
+    let p = All-head (Proper m) r rs a in
+    All-cons (Proper n) r rs (record { sound = p.sound; counted = p.counted; short = omega (arith, p.short) }) (longer m n rs h (All-tail (Proper m) r rs a))
 
 sum_proper : {t : Term ℕ} {x : List (List Factor)} → Summed t x → All (Proper (length (text_of t))) (rows_with x)
 sum_proper (sequence {t = t} {fs = fs} h) =
     let e = sequence_row h blank in
     let f = row_of_lem t blank (row_with fs) blank_sound e in
-    (record { sound = f.sound; counted = f.counted; short = lines_fit t (row_with fs) e }, tt)
+    let p = Proper (length (text_of t)) in
+    All-cons p (row_with fs) [] (record { sound = f.sound; counted = f.counted; short = lines_fit t (row_with fs) e }) (All-nil p)
 sum_proper (plus {a = a} {b = b} {x = x} {y = y} h k) =
     let n = length-append (text_of a) (text_of b) in
     subst (All (Proper (suc (length (text_of a ++ text_of b))))) (sym (map-append row_with x y))
@@ -84,7 +83,7 @@ sum_proper (plus {a = a} {b = b} {x = x} {y = y} h k) =
     (longer (length (text_of a)) _ (rows_with x) (omega arith) (sum_proper h)) (longer (length (text_of b)) _ (rows_with y) (omega arith) (sum_proper k)))
 
 closes_proper : {t : Term ℕ} {x : List (List Factor)} → ClosesTo t x → All (Proper (length (text_of t))) (rows_with x)
-closes_proper nothing = tt
+closes_proper nothing = All-nil (Proper (length (text_of never)))
 closes_proper (sum h) = sum_proper h
 
 pub text_proper : (bs : List ℕ) (x : List (List Factor)) → TextCloses bs x → All (Proper 511) (rows_with x)
@@ -208,7 +207,7 @@ module _ (bs : List ℕ) (x : List (List Factor)) (c : TextCloses bs x) (h : len
 
   pub possible_all : ((k : ℕ) → k < length x → Impossible (get_or (padded 64 (rows_with x)) k absent) → ⊥) → All (λ r. Impossible r → ⊥) (rows_with x)
   possible_all f =
-      all_from (λ r. Impossible r → ⊥) (rows_with x)
+      All-from_get_or (λ r. Impossible r → ⊥) (rows_with x) absent
       (λ k l. subst (λ (r : Row). Impossible r → ⊥) (row_at_lem k (omega (arith, map_length x))) (f k (omega (arith, map_length x))))
 
   pub impossible_at : SomeImpossible (padded 64 (rows_with x)) (length x) → SomeImpossible (rows_with x) (length x)
@@ -226,16 +225,16 @@ keeps_date K d bs x c =
 
 -- refused as impossible exactly where a sequence happens under no dating by ticks
 some_impossible : (rs : List Row) → All Sound rs → (All (λ r. Impossible r → ⊥) rs → ⊥) → SomeImpossible rs (length rs)
-some_impossible [] s f = absurd (f tt)
+some_impossible [] s f = absurd (f (All-nil (λ r. Impossible r → ⊥)))
 some_impossible (r ∷ rs) s f =
-    elim (decided r s.0) [
+    elim (decided r (All-head Sound r rs s)) [
       | inl i ↦ record { at = 0; low = omega arith; impossible = i }
-      | inr n ↦ let k = some_impossible rs s.1 (λ a. f (n, a)) in record { at = suc k.at; low = omega (arith, k.low); impossible = k.impossible }
+      | inr n ↦ let k = some_impossible rs (All-tail Sound r rs s) (λ a. f (All-cons (λ q. Impossible q → ⊥) r rs n a)) in record { at = suc k.at; low = omega (arith, k.low); impossible = k.impossible }
     ]
 
 all_sound : (n : ℕ) (rs : List Row) → All (Proper n) rs → All Sound rs
-all_sound n [] a = tt
-all_sound n (r ∷ rs) a = (a.0.sound, all_sound n rs a.1)
+all_sound n [] a = All-nil Sound
+all_sound n (r ∷ rs) a = All-cons Sound r rs (All-head (Proper n) r rs a).sound (all_sound n rs (All-tail (Proper n) r rs a))
 
 refused_some : {A : Type 0} (Given : A → Type 0) (bs : List ℕ) (x : List (List Factor)) → TextCloses bs x → (r : Result A CloseRefusal) → Closed bs Given r
     → r ≡ Err ImpossibleSequence → SomeImpossible (rows_with x) (length (rows_with x))

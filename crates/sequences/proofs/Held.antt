@@ -3,7 +3,7 @@
 use Rattle.std.proofs.Common.{◌≡◌, ℕ, ◌<◌, ◌≤◌, List, [], ◌∷◌, length, get_or, take, All, sym, refl, ap, ◌∙◌, subst, arith}
 use mathlib.Core.Logic.{∥∥₁_elim}
 use denote.Struct.Props.{props}
-use Rattle.std.proofs.lemmas.List.Elements.{All-get_or}
+use Rattle.std.proofs.lemmas.List.Elements.{All-nil, All-cons, All-head, All-tail, All-get_or}
 use Rattle.std.proofs.lemmas.List.{length-take-le}
 use Rattle.algebra.specs.Kinds.{Kind, Same}
 use Rattle.algebra.specs.Refusals.{Refused, Granted}
@@ -78,8 +78,11 @@ module _ (bs : List ℕ) (rows : List Row) (len : ℕ) (all : Granted (CloseAsks
   held_dates K d = subst (λ (rs : List Row). Same K (text_date K d bs) (table_date K d rs)) (sym front) (keeps_date K d bs seqs h.closes)
 
   happen : (rs : List Row) → All (Proper 511) rs → All (λ r. Impossible r → ⊥) rs → All HappensByTicks rs
-  happen [] a b = tt
-  happen (r ∷ rs) a b = (happens_by_ticks r a.0.sound a.0.counted b.0, happen rs a.1 b.1)
+  happen [] a b = All-nil HappensByTicks
+  happen (r ∷ rs) a b =
+      let p = All-head (Proper 511) r rs a in
+      All-cons HappensByTicks r rs (happens_by_ticks r p.sound p.counted (All-head (λ q. Impossible q → ⊥) r rs b))
+      (happen rs (All-tail (Proper 511) r rs a) (All-tail (λ q. Impossible q → ⊥) r rs b))
 
   pub held_happen : All HappensByTicks (take len rows)
   held_happen = subst (All HappensByTicks) (sym front) (happen (rows_with seqs) (text_proper bs seqs h.closes) possibles)

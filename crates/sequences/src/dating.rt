@@ -13,14 +13,14 @@ use dates::Date;
 
 // Where the pair stands, p is before q.
 fn meets_before<D: Date>(stands: bool, p: D, q: D) -> bool
-    ensures { result ≡ asked stands (before Kind p q) }
+    ensures { result ≡ asked stands (before D.kind p q) }
 {
     if stands { !q.no_later(p) } else { true }
 }
 
 // Where the pair stands, p and q are the same.
 fn meets_tie<D: Date>(stands: bool, p: D, q: D) -> bool
-    ensures { result ≡ asked stands (Kind.no_later p q && Kind.no_later q p) }
+    ensures { result ≡ asked stands (D.kind.no_later p q && D.kind.no_later q p) }
 {
     if stands {
         p.no_later(q) && q.no_later(p)
@@ -31,7 +31,7 @@ fn meets_tie<D: Date>(stands: bool, p: D, q: D) -> bool
 
 // The later of two dates, the first where they are the same.
 fn later_of<D: Date>(best: Option<D>, q: D) -> Option<D>
-    ensures { result ≡ later Kind best q }
+    ensures { result ≡ later D.kind best q }
 {
     match best {
         None => Some(q),
@@ -41,7 +41,7 @@ fn later_of<D: Date>(best: Option<D>, q: D) -> Option<D>
 
 // The earlier of two dates, the first where they are the same.
 pub fn earlier_of<D: Date>(p: D, q: D) -> D
-    ensures { result ≡ joined Kind Or p q }
+    ensures { result ≡ joined D.kind Or p q }
 {
     if p.no_later(q) { p } else { q }
 }
@@ -67,7 +67,7 @@ impl Row {
     // The pairs of v and w meet their operators' tests.
     fn pair_meets<D: Date>(&self, v: usize, w: usize, p: D, q: D) -> bool
         requires { (v < 24) × (w < 24) }
-        ensures { result ≡ pair_meets Kind self.now v w p q }
+        ensures { result ≡ pair_meets D.kind self.now v w p q }
     {
         meets_before(member(self.before.of[v], w), p, q)
             && meets_tie(member(self.ties.of[v], w), p, q)
@@ -77,7 +77,7 @@ impl Row {
     fn meets_from<D: Date>(&self, v: usize, dating: &[D]) -> bool
         requires low { v < 24 }
         requires dates { length dating.now ≡ 24 }
-        ensures { result ≡ all 24 (λ w. pair_meets Kind self.now v w (dating_of Kind dating.now v) (dating_of Kind dating.now w)) }
+        ensures { result ≡ all 24 (λ w. pair_meets D.kind self.now v w (dating_of D.kind dating.now v) (dating_of D.kind dating.now w)) }
     {
         for w in 0..24 {
             if !self.pair_meets(v, w, dating[v], dating[w]) {
@@ -90,7 +90,7 @@ impl Row {
     // Every pair meets its operator's test.
     fn meets<D: Date>(&self, dating: &[D]) -> bool
         requires { length dating.now ≡ 24 }
-        ensures { result ≡ meets Kind (dating_of Kind dating.now) self.now }
+        ensures { result ≡ meets D.kind (dating_of D.kind dating.now) self.now }
     {
         for v in 0..24 {
             if !self.meets_from(v, dating) {
@@ -104,7 +104,7 @@ impl Row {
     fn latest<D: Date>(&self, dating: &[D]) -> Option<D>
         requires sound { Sound self.now }
         requires dates { length dating.now ≡ 24 }
-        ensures { result ≡ latest Kind (dating_of Kind dating.now) (counts self.now) 24 }
+        ensures { result ≡ latest D.kind (dating_of D.kind dating.now) (counts self.now) 24 }
     {
         let mut best = None;
         for v in 0..24 {
@@ -119,7 +119,7 @@ impl Row {
     pub fn date<D: Date>(&self, dating: &[D]) -> D
         requires sound { Sound self.now }
         requires dates { length dating.now ≡ 24 }
-        ensures { result ≡ row_date Kind (dating_of Kind dating.now) self.now }
+        ensures { result ≡ row_date D.kind (dating_of D.kind dating.now) self.now }
     {
         if !self.meets(dating) {
             return D::never();

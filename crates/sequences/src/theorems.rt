@@ -8,21 +8,21 @@ ghost use Rattle.sequences.specs.Sequences.{RowsMatch, TableKeeps};
 use dates::Date;
 
 // A row is impossible exactly where it happens under no dating by ticks, and an impossible row happens under no dating of
-// any Kind whose dates are numbers.
+// any kind whose dates are numbers.
 pub fn impossible_rows_never_happen()
     ensures ticks { ImpossibleByTicks }
     ensures numbers { (K : Kind ℕ) → NeverHappens K }
 {}
 
-// An impossible row happens under no dating of the Kind D, and the rows of a sum have the date of the sum.
+// An impossible row happens under no dating of the kind D, and the rows of a sum have the date of the sum.
 pub fn impossible_rows_never_happen_at<D: Date>()
-    ensures never { NeverHappens Kind }
-    ensures dates { TableKeeps Kind }
+    ensures never { NeverHappens D.kind }
+    ensures dates { TableKeeps D.kind }
 {}
 
 // The date of a row is that of its latest letter that counts, where every pair meets its test, and else never.
 pub fn row_dates_are_latest<D: Date>()
-    ensures { DatesOfRows Kind }
+    ensures { DatesOfRows D.kind }
 {}
 
 // Two rows have one line only where they are equal, and the line of a sequence is at most one byte longer than its text.

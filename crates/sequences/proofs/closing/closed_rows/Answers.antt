@@ -1,5 +1,6 @@
 use Rattle.std.proofs.Common.{◌≡◌, ℕ, ◌<◌, ◌≤◌, false, List, [], length, get_or, replicate, sym, refl, ap, ◌∙◌, subst, arith, tests}
 use borrow.Author.Tests.{both_ways}
+use Rattle.std.proofs.lemmas.List.Elements.{All-nil}
 use Rattle.algebra.specs.Texts.{never_byte}
 use Rattle.sequences.specs.Rows.{absent, padded}
 use Rattle.sequences.specs.Sequences.{rows_with}
@@ -13,7 +14,7 @@ pub returns-then-is_never : goal.returns-then-is_never
 returns-then-is_never c =
     let bs = c.args.text.now in
     let n = never_closes bs (c.is_never.ensures.0 c.if-is_never.true) in (
-      granted bs [] n (omega arith) tt,
+      granted bs [] n (omega arith) (All-nil (λ r. Impossible r → ⊥)),
       record { sequences = []; closes = n; count = refl; kept = ap (λ (x : Row). replicate 64 x) c.blank.ensures ∙ sym (padded_none 64) },
     )
 
