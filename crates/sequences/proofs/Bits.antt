@@ -1,12 +1,12 @@
 -- Which bits the masks have.
 -- Assumes nothing.
-use Rattle.std.proofs.Common.{◌≡◌, ℕ, zero, suc, ◌+◌, ◌-◌, ◌*◌, ◌/◌, ◌%◌, ◌^◌, ◌<◌, ◌≤◌, max, Bool, true, false, ◌||◌, T, eqb, ◌⊎◌, sym, refl, ap, ◌∙◌, subst, ap₂, inl, inr, pow-suc, arith}
+use Rattle.std.proofs.Common.{◌≡◌, ℕ, suc, ◌+◌, ◌-◌, ◌*◌, ◌/◌, ◌%◌, ◌^◌, ◌<◌, max, false, ◌||◌, eqb, ◌⊎◌, sym, ap, ◌∙◌, subst, inl, inr, pow-suc, arith}
 use native.Mathlib.Nat.{div-eq_of_lt, div_self, zero-div}
 use lib.Bits.{bit_or, or_step, or_shr}
 use Rattle.std.proofs.lemmas.Bool.{eq-eqb, ne_eqb, cases_order}
 use Rattle.std.proofs.lemmas.Bool.Decides.{nat_tests}
 use Rattle.std.proofs.lemmas.Nat.{shl-shr, pow-add, pow_below, pow_pos}
-use Rattle.sequences.specs.Masks.{has, linked, added}
+use Rattle.sequences.specs.Masks.{has}
 
 or_odd : (a b : ℕ) → bit_or a b % 2 ≡ max (a % 2) (b % 2)
 or_odd a b = omega (arith, or_step a b)

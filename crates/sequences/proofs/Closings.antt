@@ -1,39 +1,37 @@
 -- Each way that a closing can go.
 -- Assumes nothing.
-use Rattle.std.proofs.Common.{◌≡◌, ℕ, zero, suc, ◌+◌, ◌<◌, ◌≤◌, Bool, true, false, ◌⊎◌, ◌↔◌, List, [], ◌∷◌, ◌++◌, map, length, get_or, take, Ok, Err, All, Result, sym, refl, ap, ◌∙◌, subst, inl, inr, arith, length-append}
+use Rattle.std.proofs.Common.{◌≡◌, ℕ, suc, ◌+◌, ◌<◌, ◌≤◌, Bool, true, false, List, [], ◌∷◌, ◌++◌, length, get_or, take, Ok, Err, All, Result, sym, refl, ap, ◌∙◌, subst, inl, inr, arith, length-append}
 use mathlib.Core.Option.{Option, none, some}
 use Rattle.std.proofs.lemmas.List.{length-map, map-append}
 use Rattle.std.proofs.lemmas.List.Elements.{All-nil, All-cons, All-head, All-tail, All-append, All-get_or, All-from_get_or}
 use Rattle.algebra.specs.Kinds.{Kind, Same}
-use Rattle.algebra.specs.Refusals.{Refused, Granted, Answers}
+use Rattle.algebra.specs.Refusals.{Refused, Granted}
 use Rattle.algebra.specs.Terms.{Term, never}
-use Rattle.algebra.specs.Texts.{IsText, Whole, never_byte, text_of, text_date}
+use Rattle.algebra.specs.Texts.{IsText, never_byte, text_of, text_date}
 use Rattle.algebra.proofs.Bytes.{same_term}
 use Rattle.algebra.proofs.Derived.{text_date_lem}
-use Rattle.dates.specs.Ticks.{tick_kind}
 use Rattle.sequences.specs.Codes.{close_code}
-use Rattle.sequences.specs.Closing.{SumText, CloseAsks, RowsHold, Closed, KeepsDates, SomeNever, SomeNowhere, RefusedExactly, RefusedNowhere}
+use Rattle.sequences.specs.Closing.{SumText, CloseAsks, Closed, SomeNever, RefusedExactly, RefusedNowhere}
 use Rattle.sequences.specs.Dates.{Counted, table_date}
 use Rattle.sequences.specs.Lines.{line}
 use Rattle.sequences.specs.Rows.{absent, blank, padded, row_with}
 use Rattle.sequences.specs.Scans.{State, Keeps, is_end, run, start}
-use Rattle.sequences.specs.Sequences.{row_of, rows_of, sum_of, Sequenced, factor, both, Summed, sequence, plus, ClosesTo, nothing, sum, TextCloses, rows_with, RowsAre}
+use Rattle.sequences.specs.Sequences.{rows_of, sum_of, Summed, sequence, plus, ClosesTo, nothing, sum, TextCloses, rows_with}
 use Rattle.sequences.specs.Walks.{Impossible, SomeImpossible, Sound}
 use Rattle.sequences.specs.declared.row.Factor.{Factor}
 use Rattle.sequences.specs.declared.row.Row.{Row}
 use Rattle.sequences.specs.declared.refusals.CloseRefusal.{CloseRefusal}
 use Rattle.sequences.specs.declared.refusals.CloseRefusal.TheVariants.{NoTree, NoSum, TooMany, ImpossibleSequence}
 use Rattle.sequences.specs.declared.scan.Reading.{Reading}
-use Rattle.sequences.specs.declared.scan.Wants.{Wants}
 use Rattle.sequences.specs.declared.scan.Wants.TheVariants.{End, Nothing}
 use Rattle.sequences.proofs.Entered.{blank_sound}
 use Rattle.sequences.proofs.Fit.{lines_fit}
-use Rattle.sequences.proofs.Padded.{padded_none, padded_blank, padded_at, padded_front, padded_length}
+use Rattle.sequences.proofs.Padded.{padded_blank, padded_at, padded_front}
 use Rattle.sequences.proofs.RowDates.{never_happens}
 use Rattle.sequences.proofs.Scanned.{scans_sums, scans_none}
 use Rattle.sequences.proofs.Sums.{closes_among, closes_rows, sequence_row, sum_closes, sum_rows}
-use Rattle.sequences.proofs.Tables.{some_same, none_some, row_of_lem, table_keeps}
-use Rattle.sequences.proofs.Ticks.{impossible_by_ticks, decided, happens_by_ticks}
+use Rattle.sequences.proofs.Tables.{some_same, row_of_lem, table_keeps}
+use Rattle.sequences.proofs.Ticks.{impossible_by_ticks, decided}
 
 -- the rows of a text are its own
 pub one_rows : (bs : List ℕ) (x y : List (List Factor)) → TextCloses bs x → TextCloses bs y → rows_with x ≡ rows_with y

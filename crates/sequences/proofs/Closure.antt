@@ -1,6 +1,6 @@
 -- Going by way of one letter after the other gives the links closed under going on.
 -- Assumes nothing.
-use Rattle.std.proofs.Common.{◌≡◌, ℕ, zero, suc, ◌+◌, ◌<◌, ◌≤◌, Bool, true, false, ◌&&◌, ◌||◌, T, ◌⊎◌, sym, refl, ap, ◌∙◌, subst, ap₂, inl, inr, add-one, arith}
+use Rattle.std.proofs.Common.{◌≡◌, ℕ, zero, suc, ◌+◌, ◌<◌, Bool, ◌&&◌, ◌||◌, T, sym, ap, ◌∙◌, subst, ap₂, inl, inr, add-one, arith}
 use Rattle.sequences.specs.Walks.{Chain, one, more, Low, via, closure, Closes}
 use Rattle.sequences.proofs.Tests.{or_in_l, or_in_r, or_out, and_in, and_out, below_suc}
 

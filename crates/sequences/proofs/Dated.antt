@@ -1,12 +1,12 @@
 -- What a date is no later than: of the dates that the operators make.
 -- Assumes nothing.
-use Rattle.std.proofs.Common.{◌≡◌, Bool, true, false, cond, not, ◌&&◌, T, ◌⊎◌, sym, refl, ap, ◌∙◌, subst, inl, inr, T_not}
+use Rattle.std.proofs.Common.{◌≡◌, false, ◌&&◌, T, ◌⊎◌, inl, inr, T_not}
 use lib.Dec.{not_T}
 use Rattle.algebra.specs.Kinds.{Kind, before, Same}
 use Rattle.algebra.specs.Terms.{joined}
 use Rattle.algebra.specs.declared.Operator.TheVariants.{Or, And, Before, Simultaneous}
 use Rattle.std.proofs.lemmas.Bool.{not-true, not-false, cond_both, cases_Bool}
-use Rattle.sequences.proofs.Tests.{is_T, T_is, T_not_false, and_in, and_out}
+use Rattle.sequences.proofs.Tests.{is_T, T_not_false, and_in, and_out}
 
 module _ {D : Type 0} (K : Kind D) where
   abbrev pub NoLater : D → D → Type 0

@@ -1,7 +1,7 @@
 -- One turn of each loop over the dates of a row.
 -- Assumes nothing.
-use Rattle.std.proofs.Common.{◌≡◌, ℕ, zero, suc, ◌+◌, ◌<◌, ◌≤◌, Bool, true, false, cond, not, ◌&&◌, T, eqb, ◌⊎◌, List, [], ◌∷◌, length, get_or, take, drop, Some, None, Option, sym, refl, ap, ◌∙◌, subst, ap₂, inl, inr, add-one, arith, eqb→eq, T_not, drop-cons}
-use lib.Dec.{not_T, eqb_refl}
+use Rattle.std.proofs.Common.{◌≡◌, ℕ, suc, ◌+◌, ◌<◌, ◌≤◌, Bool, true, false, cond, not, ◌&&◌, T, eqb, List, length, get_or, take, drop, None, sym, refl, ap, ◌∙◌, subst, ap₂, inl, inr, add-one, arith, eqb→eq, T_not, drop-cons}
+use lib.Dec.{not_T}
 use lib.Seq.{drop-length}
 use Rattle.std.proofs.lemmas.List.{get_or_default, get_or-take}
 use Rattle.std.proofs.lemmas.Bool.{cases_Bool}

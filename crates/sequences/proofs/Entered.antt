@@ -1,6 +1,6 @@
 -- What a row has after a factor was entered.
 -- Assumes nothing.
-use Rattle.std.proofs.Common.{◌≡◌, ℕ, ◌^◌, ◌<◌, Bool, true, false, ◌||◌, T, eqb, ◌⊎◌, List, length, get_or, set, replicate, sym, refl, ap, ◌∙◌, subst, inl, inr, arith, eqb→eq, length-set}
+use Rattle.std.proofs.Common.{◌≡◌, ℕ, ◌^◌, ◌<◌, false, T, ◌⊎◌, List, length, get_or, replicate, sym, refl, ap, ◌∙◌, subst, inl, inr, arith, eqb→eq, length-set}
 use lib.Bits.{bit_or}
 use lib.Dec.{eqb_refl}
 use lib.ListN.{get_or-replicate}
@@ -13,7 +13,7 @@ use Rattle.sequences.specs.declared.row.Factor.{Factor}
 use Rattle.sequences.specs.declared.row.Factor.TheVariants.{Letter, Less, Tie}
 use Rattle.sequences.proofs.Tests.{or_in_l, or_in_r, or_out, T_not_false}
 use Rattle.sequences.proofs.Bits.{has_or, has_one, has_none}
-use Rattle.sequences.proofs.Turns.{linked_same, linked_other, linked_past, tied_low}
+use Rattle.sequences.proofs.Turns.{linked_same, linked_other, linked_past}
 
 module _ (m k : ℕ) where
   pub bit_kept : (v : ℕ) → T (has m v) → T (has (bit_or m (2 ^ k)) v)

@@ -1,16 +1,14 @@
 -- The dates of rows and tables are what the relations say.
 -- Assumes nothing.
-use Rattle.std.proofs.Common.{◌≡◌, ℕ, zero, suc, ◌<◌, ◌≤◌, Bool, true, false, cond, not, T, ◌⊎◌, List, [], ◌∷◌, length, get_or, Some, None, Option, sym, refl, ap, ◌∙◌, subst, inl, inr, arith}
+use Rattle.std.proofs.Common.{◌≡◌, ℕ, zero, suc, ◌<◌, Bool, false, T, List, [], ◌∷◌, length, get_or, Some, None, Option, sym, refl, subst, inl, inr, arith}
 use Rattle.std.proofs.lemmas.Bool.{cond_both, not-true, not-false}
-use Rattle.algebra.specs.Kinds.{Kind, before, Same}
-use Rattle.algebra.specs.Terms.{joined}
-use Rattle.algebra.specs.declared.Operator.TheVariants.{Or, And}
+use Rattle.algebra.specs.Kinds.{Kind, before}
 use Rattle.sequences.specs.Dates.{counts, Counted, later, latest, meets, or_never, row_date, table_date, PairsMet, LatestOf, RowDated, met, unmet, EarliestOf, RowsDated, none, some, DatesOfRows}
-use Rattle.sequences.specs.Rows.{absent, precedes, ties}
+use Rattle.sequences.specs.Rows.{absent}
 use Rattle.sequences.specs.Walks.{Sound}
 use Rattle.sequences.specs.declared.row.Row.{Row}
-use Rattle.sequences.proofs.Dated.{NoLater, Sooner, flip, le_lt, le_refl, lt_by, lt_le}
-use Rattle.sequences.proofs.RowDates.{Meets, counts_why, less_out, meets_in, same_out, why_low}
+use Rattle.sequences.proofs.Dated.{NoLater, Sooner, le_lt, le_refl, lt_le}
+use Rattle.sequences.proofs.RowDates.{counts_why, less_out, meets_in, same_out, why_low}
 use Rattle.sequences.proofs.Tests.{below_suc, is_T, T_not_false}
 
 module _ {D : Type 0} (K : Kind D) (d : ℕ → D) where

@@ -8,18 +8,17 @@ use Rattle.algebra.specs.Terms.{Term, leaf, never, node}
 use Rattle.algebra.specs.declared.Operator.{Operator}
 use Rattle.algebra.specs.declared.Operator.TheVariants.{Or, And, Before, Simultaneous, Inclusive}
 use Rattle.algebra.specs.Texts.{text_of}
-use Rattle.sequences.specs.Masks.{linked}
 use Rattle.sequences.specs.Rows.{Fitting, entered, blank, listed, precedes, ties}
 use Rattle.sequences.specs.Walks.{Sound}
-use Rattle.sequences.specs.Sequences.{letter_of, single, pair_of, factor_of, enter_of, onto, row_of}
+use Rattle.sequences.specs.Sequences.{letter_of, single, factor_of, enter_of, onto, row_of}
 use Rattle.sequences.specs.declared.row.Row.{Row}
 use Rattle.sequences.specs.declared.row.Factor.{Factor}
 use Rattle.sequences.specs.declared.row.Factor.TheVariants.{Letter, Less, Tie}
-use Rattle.sequences.proofs.Tests.{and_in, and_out, below_suc, T_not_false, not_T_is}
+use Rattle.sequences.proofs.Tests.{and_in, and_out, not_T_is}
 use Rattle.sequences.proofs.Entered.{bit_out, pair_out, tie_out, blank_sound, blank_listed, blank_precedes, blank_ties, entered_sound}
 use Rattle.sequences.proofs.Tallies.{one_mono, one_small, tally_most}
-use Rattle.sequences.proofs.Tables.{some_same, none_some, IsLetter, letter_of_lem, pair_of_lem, factor_of_lem}
-use Rattle.sequences.specs.Lines.{sifted, paired, items, spell, rest, line_of, line, LinesFit, one, tally, grid}
+use Rattle.sequences.proofs.Tables.{some_same, none_some, IsLetter, pair_of_lem, factor_of_lem}
+use Rattle.sequences.specs.Lines.{sifted, paired, items, spell, rest, line_of, LinesFit, one, tally, grid}
 
 or_else : {A B : Type 0} → A ⊎ B → (B → ⊥) → A
 or_else (inl a) n = a

@@ -1,6 +1,6 @@
 -- What the rows of a text give to the table that holds them.
 -- Assumes nothing.
-use Rattle.std.proofs.Common.{◌≡◌, ℕ, ◌<◌, ◌≤◌, List, [], ◌∷◌, length, get_or, take, All, sym, refl, ap, ◌∙◌, subst, arith}
+use Rattle.std.proofs.Common.{◌≡◌, ℕ, ◌<◌, ◌≤◌, List, [], ◌∷◌, length, get_or, take, All, sym, ap, ◌∙◌, subst, arith}
 use mathlib.Core.Logic.{∥∥₁_elim}
 use denote.Struct.Props.{props}
 use Rattle.std.proofs.lemmas.List.Elements.{All-nil, All-cons, All-head, All-tail, All-get_or}
@@ -12,14 +12,13 @@ use Rattle.sequences.specs.Closing.{CloseAsks, KeepsDates, RowsHold}
 use Rattle.sequences.specs.Codes.{line_code, table_code}
 use Rattle.sequences.specs.Dates.{HappensByTicks, table_date}
 use Rattle.sequences.specs.Lines.{line}
-use Rattle.sequences.specs.Rows.{absent, padded, row_with}
-use Rattle.sequences.specs.Sequences.{TextCloses, rows_with}
+use Rattle.sequences.specs.Rows.{absent, padded}
+use Rattle.sequences.specs.Sequences.{rows_with}
 use Rattle.sequences.specs.Tables.{DateAsks, LineAsks, TellsRow, held, row_at}
 use Rattle.sequences.specs.Walks.{Impossible, Sound, Sound-prop}
 use Rattle.sequences.specs.declared.row.Factor.{Factor}
 use Rattle.sequences.specs.declared.row.Row.{Row}
-use Rattle.sequences.specs.declared.refusals.CloseRefusal.{CloseRefusal}
-use Rattle.sequences.specs.declared.refusals.CloseRefusal.TheVariants.{NoTree, NoSum, TooMany, ImpossibleSequence}
+use Rattle.sequences.specs.declared.refusals.CloseRefusal.TheVariants.{TooMany, ImpossibleSequence}
 use Rattle.sequences.specs.declared.refusals.LineRefusal.{LineRefusal}
 use Rattle.sequences.specs.declared.refusals.LineRefusal.TheVariants.{SmallBuffer, NoRow}
 use Rattle.sequences.specs.declared.refusals.TableRefusal.{TableRefusal}

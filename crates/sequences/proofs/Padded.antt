@@ -1,6 +1,6 @@
 -- The first rows of a list, and blank ones after them.
 -- Assumes nothing.
-use Rattle.std.proofs.Common.{◌≡◌, ℕ, zero, suc, ◌<◌, ◌≤◌, List, [], ◌∷◌, ◌++◌, length, get_or, take, set, replicate, sym, refl, ap, ◌∙◌, arith}
+use Rattle.std.proofs.Common.{◌≡◌, ℕ, zero, suc, ◌<◌, ◌≤◌, List, [], ◌∷◌, ◌++◌, length, get_or, take, set, replicate, refl, ap, arith}
 use Rattle.sequences.specs.Rows.{blank, padded}
 use Rattle.sequences.specs.declared.row.Row.{Row}
 

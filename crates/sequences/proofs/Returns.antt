@@ -1,6 +1,6 @@
 -- A row is impossible where a letter precedes one from which one comes back to it.
 -- Assumes nothing.
-use Rattle.std.proofs.Common.{◌≡◌, ℕ, zero, suc, ◌+◌, ◌<◌, ◌≤◌, Bool, true, false, ◌&&◌, ◌||◌, T, ◌⊎◌, sym, refl, ap, ◌∙◌, subst, ap₂, inl, inr, add-one, arith}
+use Rattle.std.proofs.Common.{◌≡◌, ℕ, ◌+◌, Bool, true, false, ◌&&◌, ◌||◌, T, ◌⊎◌, sym, refl, ap, ◌∙◌, subst, ap₂, inl, inr, add-one}
 use Rattle.sequences.specs.Rows.{precedes, ties}
 use Rattle.sequences.specs.Walks.{Walk, stay, less, along, back, Impossible, Sound, Chain, one, more, any, Closes, Low}
 use Rattle.sequences.specs.declared.row.Row.{Row}

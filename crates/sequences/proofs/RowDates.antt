@@ -1,11 +1,11 @@
 -- What the date of a row is no later than.
 -- Assumes nothing.
-use Rattle.std.proofs.Common.{◌≡◌, ℕ, zero, suc, ◌<◌, Bool, true, false, cond, not, ◌&&◌, ◌||◌, T, ◌⊎◌, Some, None, Option, sym, refl, ap, ◌∙◌, subst, inl, inr, arith, T_not}
+use Rattle.std.proofs.Common.{ℕ, zero, suc, ◌<◌, Bool, true, ◌&&◌, T, Some, None, Option, sym, subst, inl, inr, arith, T_not}
 use Rattle.algebra.specs.Kinds.{Kind, before, Same}
 use Rattle.std.proofs.lemmas.Bool.{cond_both}
 use Rattle.sequences.specs.Rows.{listed, precedes, ties}
-use Rattle.sequences.specs.Walks.{any, all, Sound, Walk, stay, less, along, back, Impossible}
-use Rattle.sequences.specs.Dates.{counts, asked, meets, later, latest, or_never, row_date, Happens, Counted, NeverHappens}
+use Rattle.sequences.specs.Walks.{any, all, Sound, Walk, stay, less, along, back}
+use Rattle.sequences.specs.Dates.{counts, asked, meets, later, latest, or_never, row_date, Counted, NeverHappens}
 use Rattle.sequences.specs.declared.row.Row.{Row}
 use Rattle.sequences.proofs.Tests.{or_in_l, or_in_r, or_out, and_in, and_out, any_in, any_out, all_in, all_out, asked_in, asked_out, is_T, T_not_false, below_suc}
 use Rattle.sequences.proofs.Turns.{left_low, tied_low}

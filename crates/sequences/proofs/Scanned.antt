@@ -1,8 +1,8 @@
 -- The text of a sum is read to its end; that of no sum is refused.
 -- Assumes nothing.
-use Rattle.std.proofs.Common.{◌≡◌, ℕ, ◌+◌, ◌-◌, ◌<◌, ◌≤◌, Bool, true, false, cond, not, ◌&&◌, eqb, ltb, leb, ◌⊎◌, List, [], ◌∷◌, ◌++◌, sym, refl, ap, ◌∙◌, subst, ap₂, inl, inr, append_assoc, append-nil, arith}
+use Rattle.std.proofs.Common.{◌≡◌, ℕ, ◌+◌, ◌-◌, ◌<◌, ◌≤◌, Bool, true, false, cond, not, ◌&&◌, eqb, ltb, leb, List, [], ◌∷◌, ◌++◌, sym, refl, ap, ◌∙◌, ap₂, append_assoc, append-nil, arith}
 use mathlib.Core.Option.{Option, none, some}
-use Rattle.std.proofs.lemmas.Bool.{ne_eqb, eq-eqb, le-leb, lt-leb, and_from, and_left, and_right, cond-true, cond-false, eqb-false, eqb-true, ltb-true, ltb-false, cases_Bool}
+use Rattle.std.proofs.lemmas.Bool.{ne_eqb, eq-eqb, le-leb, lt-leb, and_from, and_left, and_right, cond-true, cond-false, eqb-true, ltb-false}
 use Rattle.algebra.specs.Terms.{Term, leaf, never, node}
 use Rattle.algebra.specs.declared.Operator.{Operator}
 use Rattle.algebra.specs.declared.Operator.TheVariants.{Or, And, Before, Simultaneous, Inclusive}
@@ -11,9 +11,9 @@ use Rattle.sequences.specs.Rows.{entered, blank, made}
 use Rattle.sequences.specs.Sequences.{letter_of, single, pair_of, factor_of, enter_of, onto, row_of, alone, both_of, sum_of}
 use Rattle.sequences.specs.declared.row.Row.{Row}
 use Rattle.sequences.specs.declared.row.Factor.{Factor}
-use Rattle.sequences.specs.declared.row.Factor.TheVariants.{Letter, Less, Tie}
+use Rattle.sequences.specs.declared.row.Factor.TheVariants.{Letter}
 use Rattle.sequences.proofs.Tables.{some_same, none_some, IsLetter, letter_of_lem, pair_of_lem}
-use Rattle.sequences.specs.Scans.{State, after, advanced, begun, completed, is_letter, moved, onward, reading_at, run, start, step, step_of}
+use Rattle.sequences.specs.Scans.{State, advanced, begun, completed, is_letter, moved, reading_at, run, start, step, step_of}
 use Rattle.sequences.specs.declared.row.Sign.{Sign}
 use Rattle.sequences.specs.declared.row.Sign.TheVariants.{Precedes, Ties}
 use Rattle.sequences.specs.declared.scan.Reading.{Reading}

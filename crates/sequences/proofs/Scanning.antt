@@ -1,11 +1,11 @@
 -- One byte more, as the code keeps it.
 -- Assumes nothing.
-use Rattle.std.proofs.Common.{◌≡◌, ℕ, ◌+◌, ◌-◌, ◌<◌, ◌≤◌, Bool, true, false, cond, not, ◌&&◌, T, eqb, leb, ◌⊎◌, List, [], ◌∷◌, ◌++◌, length, get_or, take, set, Some, None, Option, sym, refl, ap, ◌∙◌, subst, ap₂, inl, inr, add-one, arith, leb→le, length-append, take-suc}
+use Rattle.std.proofs.Common.{◌≡◌, ℕ, ◌+◌, ◌-◌, ◌<◌, ◌≤◌, Bool, true, false, cond, not, ◌&&◌, T, eqb, leb, List, [], ◌∷◌, ◌++◌, length, get_or, take, set, Some, None, Option, sym, refl, ap, ◌∙◌, subst, ap₂, inl, inr, add-one, arith, leb→le, length-append, take-suc}
 use Rattle.std.proofs.lemmas.Bool.{cond_both, cases_lt, eqb-false}
 use Rattle.sequences.specs.Rows.{Fitting, absent, blank, entered, made, padded}
-use Rattle.sequences.specs.Scans.{State, Keeps, Ready, after, advanced, begun, completed, ends, is_letter, moved, onward, reading_at, run, start, step, step_of, stepped}
+use Rattle.sequences.specs.Scans.{State, Keeps, Ready, after, advanced, begun, completed, ends, is_letter, moved, reading_at, run, start, step, step_of, stepped}
 use Rattle.sequences.specs.declared.row.Factor.{Factor}
-use Rattle.sequences.specs.declared.row.Factor.TheVariants.{Letter, Less, Tie}
+use Rattle.sequences.specs.declared.row.Factor.TheVariants.{Letter}
 use Rattle.sequences.specs.declared.row.Row.{Row}
 use Rattle.sequences.specs.declared.row.Sign.{Sign}
 use Rattle.sequences.specs.declared.row.Sign.TheVariants.{Precedes, Ties}

@@ -1,17 +1,17 @@
 -- A term has rows exactly where it closes to sequences.
 -- Assumes nothing.
-use Rattle.std.proofs.Common.{◌≡◌, ℕ, ◌<◌, Bool, true, false, cond, eqb, ltb, List, [], ◌∷◌, ◌++◌, map, sym, refl, ap, ◌∙◌, subst, ap₂, arith}
+use Rattle.std.proofs.Common.{◌≡◌, ℕ, ◌<◌, List, [], ◌∷◌, ◌++◌, sym, refl, ap, ◌∙◌, subst, ap₂}
 use mathlib.Core.Option.{Option, none, some}
 use Rattle.std.proofs.lemmas.List.{map-append}
 use Rattle.std.proofs.lemmas.Bool.{cond-true, cond-false, lt-ltb, ne_eqb}
 use Rattle.algebra.specs.Terms.{Term, leaf, never, node, Among}
 use Rattle.algebra.specs.declared.Operator.TheVariants.{Or, And, Before, Simultaneous, Inclusive}
-use Rattle.sequences.specs.Rows.{Fitting, blank, entered, entered_all, row_with}
+use Rattle.sequences.specs.Rows.{blank, entered, entered_all, row_with}
 use Rattle.sequences.specs.Sequences.{letter_of, pair_of, single, factor_of, enter_of, onto, row_of, alone, both_of, sum_of, rows_of, Factored, letter, less, tie, Sequenced, factor, both, Summed, sequence, plus, ClosesTo, nothing, sum, rows_with, RowsAre, RowsMatch}
 use Rattle.sequences.specs.declared.row.Row.{Row}
 use Rattle.sequences.specs.declared.row.Factor.{Factor}
 use Rattle.sequences.specs.declared.row.Factor.TheVariants.{Letter, Less, Tie}
-use Rattle.sequences.proofs.Tables.{some_same, none_some, IsLetter, letter_of_lem, pair_of_lem}
+use Rattle.sequences.proofs.Tables.{some_same, none_some, letter_of_lem, pair_of_lem}
 
 -- from the relations to the definitions
 letter_is : (v : ℕ) → v < 24 → letter_of (leaf v) ≡ some v

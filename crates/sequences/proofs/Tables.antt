@@ -1,22 +1,22 @@
 -- The table's date is the term's.
 -- Assumes nothing.
-use Rattle.std.proofs.Common.{◌≡◌, ℕ, ◌<◌, Bool, true, false, cond, T, eqb, ltb, ◌⊎◌, List, [], ◌∷◌, ◌++◌, length, sym, refl, ap, ◌∙◌, subst, inl, inr, arith, ltb→lt, T_not}
+use Rattle.std.proofs.Common.{◌≡◌, ℕ, ◌<◌, Bool, true, false, cond, eqb, ltb, ◌⊎◌, List, [], ◌∷◌, ◌++◌, length, sym, refl, ap, subst, inl, inr, arith, ltb→lt, T_not}
 use mathlib.Core.Option.{Option, none, some}
-use Rattle.algebra.specs.Kinds.{Kind, before, Same}
-use Rattle.algebra.specs.Terms.{Term, leaf, never, node, joined, date}
+use Rattle.algebra.specs.Kinds.{Kind, Same}
+use Rattle.algebra.specs.Terms.{Term, leaf, never, node, date}
 use Rattle.algebra.specs.declared.Operator.TheVariants.{Or, And, Before, Simultaneous, Inclusive}
-use Rattle.sequences.specs.Rows.{Fitting, entered, blank, listed, precedes, ties}
+use Rattle.sequences.specs.Rows.{Fitting, entered, blank}
 use Rattle.sequences.specs.Walks.{Sound}
-use Rattle.sequences.specs.Dates.{counts, Counted, row_date, table_date}
+use Rattle.sequences.specs.Dates.{Counted, row_date, table_date}
 use Rattle.sequences.specs.Sequences.{letter_of, pair_of, single, factor_of, enter_of, onto, row_of, alone, both_of, sum_of, rows_of, TableKeeps}
 use Rattle.sequences.specs.declared.row.Row.{Row}
 use Rattle.sequences.specs.declared.row.Factor.{Factor}
 use Rattle.sequences.specs.declared.row.Factor.TheVariants.{Letter, Less, Tie}
 use Rattle.std.proofs.lemmas.Bool.{eqb-false}
 use Rattle.sequences.proofs.Tests.{is_T}
-use Rattle.sequences.proofs.Dated.{NoLater, Sooner, Real, le_refl, and_below, and_parts, or_left, or_right, or_cases, before_below, before_parts, tie_below, tie_parts, same_by}
+use Rattle.sequences.proofs.Dated.{NoLater, Sooner, Real, and_below, and_parts, or_left, or_right, or_cases, before_below, before_parts, tie_below, tie_parts, same_by}
 use Rattle.sequences.proofs.RowDates.{Meets, row_below, row_parts, counts_listed, counts_left, counts_tied}
-use Rattle.sequences.proofs.Entered.{bit_kept, bit_own, bit_out, pair_kept, pair_own, pair_out, tie_kept, tie_there, tie_back, tie_out, entered_sound, blank_sound, blank_listed, blank_precedes, blank_ties}
+use Rattle.sequences.proofs.Entered.{bit_kept, bit_own, bit_out, pair_kept, pair_own, pair_out, tie_kept, tie_there, tie_out, entered_sound, blank_sound, blank_listed, blank_precedes, blank_ties}
 
 pub some_same : {A : Type 0} (a b : A) → some a ≡ some b → a ≡ b
 some_same a b e = cc

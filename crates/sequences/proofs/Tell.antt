@@ -1,22 +1,21 @@
 -- Two rows have one line only where they are equal.
 -- Assumes nothing.
-use Rattle.std.proofs.Common.{◌≡◌, ℕ, zero, suc, ◌+◌, ◌/◌, ◌%◌, ◌^◌, ◌<◌, ◌≤◌, Bool, true, false, cond, ◌&&◌, T, eqb, ltb, ◌⊎◌, List, [], ◌∷◌, ◌++◌, map, length, get_or, sym, refl, ap, ◌∙◌, subst, ap₂, inl, inr, arith, ltb→lt, lt→ltb, ext_get_or}
+use Rattle.std.proofs.Common.{◌≡◌, ℕ, zero, suc, ◌+◌, ◌/◌, ◌%◌, ◌^◌, ◌<◌, ◌≤◌, Bool, ◌&&◌, T, eqb, ltb, List, [], ◌∷◌, ◌++◌, map, length, get_or, sym, refl, ap, ◌∙◌, subst, ap₂, inl, inr, arith, lt→ltb, ext_get_or}
 use mathlib.Core.List.Memᴰ
 use mathlib.Core.List.{Memᴰ}
-use Rattle.std.proofs.lemmas.Bool.{cases_lt, cases_order, cond_both}
+use Rattle.std.proofs.lemmas.Bool.{cases_order, cond_both}
 use Rattle.std.proofs.lemmas.Bool.Decides.{nat_tests}
 use Rattle.std.proofs.lemmas.Nat.{shr-shr}
 use Rattle.algebra.proofs.Tests.{bool_ext}
 use Rattle.sequences.specs.Masks.{has, linked}
 use Rattle.sequences.specs.Rows.{listed, precedes, ties}
 use Rattle.sequences.specs.Walks.{Sound}
-use Rattle.sequences.specs.declared.row.Pairs.{Pairs}
 use Rattle.sequences.specs.declared.row.Row.{Row}
 use Rattle.sequences.specs.declared.row.Factor.{Factor}
 use Rattle.sequences.specs.declared.row.Factor.TheVariants.{Letter, Less, Tie}
 use Rattle.sequences.proofs.Tests.{and_in, and_out, is_T, T_not_false, below_suc}
 use Rattle.sequences.proofs.Turns.{left_low, tied_low}
-use Rattle.sequences.specs.Lines.{sifted, paired, items, spell, rest, line_of, line, LinesTell}
+use Rattle.sequences.specs.Lines.{sifted, paired, items, spell, rest, line_of, LinesTell}
 
 head_same : (a b : ℕ) (s t : List ℕ) → a ∷ s ≡ b ∷ t → a ≡ b
 head_same a b s t e = cc

@@ -1,22 +1,21 @@
 -- A row that is not impossible happens under a dating by ticks: a letter's date is how many letters strictly precede it.
 -- Assumes nothing.
-use Rattle.std.proofs.Common.{◌≡◌, ℕ, zero, suc, ◌+◌, ◌<◌, ◌≤◌, Bool, true, false, cond, not, ◌&&◌, ◌||◌, T, eqb, ◌⊎◌, ◌↔◌, sym, refl, ap, ◌∙◌, subst, inl, inr, arith, le→leb, eqb→eq, leb→le, T_not}
+use Rattle.std.proofs.Common.{ℕ, ◌<◌, ◌≤◌, Bool, not, ◌&&◌, ◌||◌, T, eqb, ◌⊎◌, refl, subst, inl, inr, arith, le→leb, eqb→eq, leb→le}
 use lib.Dec.{not_T, eqb_refl}
-use Rattle.algebra.specs.Kinds.{Kind, before, Same}
 use Rattle.dates.specs.Ticks.{tick_kind, tick_never}
 use Rattle.dates.specs.declared.Tick.{Tick}
-use Rattle.std.proofs.lemmas.Bool.{cases_Bool, cond_both}
+use Rattle.std.proofs.lemmas.Bool.{cases_Bool}
 use Rattle.sequences.specs.Rows.{precedes, ties}
-use Rattle.sequences.specs.Walks.{Chain, one, Closes, closure, any, Sound, Impossible}
+use Rattle.sequences.specs.Walks.{one, Closes, closure, any, Sound, Impossible}
 use Rattle.sequences.specs.Dates.{Happens, HappensByTicks, Counted, row_date, ImpossibleByTicks}
 use Rattle.sequences.specs.declared.row.Row.{Row}
-use Rattle.sequences.proofs.Tests.{or_in_l, or_in_r, or_out, and_in, and_out, any_in, any_out, is_T, T_not_false, below_suc}
+use Rattle.sequences.proofs.Tests.{or_in_l, or_in_r, or_out, and_in, and_out, any_in, any_out, is_T}
 use Rattle.sequences.specs.Lines.{tally}
 use Rattle.sequences.proofs.Closure.{closes}
 use Rattle.sequences.proofs.Tallies.{tally_less, tally_most, tally_small}
-use Rattle.sequences.proofs.Turns.{left_low, tied_low}
-use Rattle.sequences.proofs.Returns.{weak, weak_low, Gone, gone_on, closing, Over, Round, round_impossible, found, none}
-use Rattle.sequences.proofs.Dated.{NoLater, Sooner, Real, le_lt}
+use Rattle.sequences.proofs.Turns.{left_low}
+use Rattle.sequences.proofs.Returns.{weak, weak_low, Gone, gone_on, closing, Over, round_impossible, found, none}
+use Rattle.sequences.proofs.Dated.{NoLater, Sooner, le_lt}
 use Rattle.sequences.proofs.RowDates.{Meets, row_below, never_happens}
 
 module _ (r : Row) (s : Sound r) where

@@ -1,6 +1,6 @@
 -- Closing a text: what it asks for, what it gives, and what that means for dates.
 -- Assumes nothing.
-use Rattle.std.specs.Prelude.{◌≡◌, ℕ, ◌<◌, ◌≤◌, ◌↔◌, List, length, Ok, Err, All, Result, slice_index_or}
+use Rattle.std.specs.Prelude.{◌≡◌, ℕ, ◌<◌, ◌≤◌, ◌↔◌, List, length, Err, All, Result, slice_index_or}
 use Rattle.algebra.specs.Kinds.{Kind, Same}
 use Rattle.algebra.specs.Refusals.{Answers}
 use Rattle.algebra.specs.Texts.{text_date}

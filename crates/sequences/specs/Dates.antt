@@ -1,6 +1,6 @@
 -- The date of a row and of a table of rows.
 -- Assumes nothing.
-use Rattle.std.specs.Prelude.{◌≡◌, ℕ, zero, suc, ◌<◌, Bool, true, false, cond, not, ◌&&◌, ◌||◌, T, ◌↔◌, List, [], ◌∷◌, length, Some, None, Option, slice_index_or}
+use Rattle.std.specs.Prelude.{◌≡◌, ℕ, zero, suc, ◌<◌, Bool, true, cond, ◌&&◌, ◌||◌, T, ◌↔◌, List, [], ◌∷◌, length, Some, None, Option, slice_index_or}
 use Rattle.algebra.specs.Kinds.{Kind, before, Same}
 use Rattle.algebra.specs.Terms.{joined}
 use Rattle.algebra.specs.declared.Operator.TheVariants.{Or, And}

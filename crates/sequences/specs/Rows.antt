@@ -1,6 +1,6 @@
 -- Rows, and what a factor adds to one.
 -- Assumes nothing.
-use Rattle.std.specs.Prelude.{◌≡◌, ℕ, zero, suc, ◌^◌, ◌<◌, Bool, List, [], ◌∷◌, replicate, ◌≢◌, bit_or}
+use Rattle.std.specs.Prelude.{ℕ, zero, suc, ◌^◌, ◌<◌, Bool, List, [], ◌∷◌, replicate, ◌≢◌, bit_or}
 use Rattle.sequences.specs.Masks.{has, linked, added}
 use Rattle.sequences.specs.declared.row.Row.{Row}
 use Rattle.sequences.specs.declared.row.Factor.{Factor}

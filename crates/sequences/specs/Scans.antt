@@ -1,11 +1,10 @@
 -- A sum read byte by byte, from the left.
 -- Assumes nothing.
-use Rattle.std.specs.Prelude.{◌≡◌, ℕ, ◌+◌, ◌-◌, ◌<◌, ◌≤◌, Bool, true, false, cond, not, ◌&&◌, List, [], ◌∷◌, ◌++◌, length, Some, None, Option, ◌==◌, nat_le}
-use Rattle.sequences.specs.Rows.{Fitting, blank, entered, made, padded}
+use Rattle.std.specs.Prelude.{◌≡◌, ℕ, ◌+◌, ◌-◌, ◌<◌, Bool, true, false, cond, not, ◌&&◌, List, [], ◌∷◌, ◌++◌, length, Some, None, Option, ◌==◌, nat_le}
+use Rattle.sequences.specs.Rows.{blank, entered, made, padded}
 use Rattle.sequences.specs.declared.row.Row.{Row}
 use Rattle.sequences.specs.declared.row.Factor.{Factor}
 use Rattle.sequences.specs.declared.row.Factor.TheVariants.{Letter}
-use Rattle.sequences.specs.declared.row.Sign.{Sign}
 use Rattle.sequences.specs.declared.row.Sign.TheVariants.{Precedes, Ties}
 use Rattle.sequences.specs.declared.scan.Wants.{Wants}
 use Rattle.sequences.specs.declared.scan.Wants.TheVariants.{Sum, Part, First, Second, End, Nothing}

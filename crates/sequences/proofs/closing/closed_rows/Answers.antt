@@ -1,9 +1,7 @@
-use Rattle.std.proofs.Common.{◌≡◌, ℕ, ◌<◌, ◌≤◌, false, List, [], length, get_or, replicate, sym, refl, ap, ◌∙◌, subst, arith, tests}
+use Rattle.std.proofs.Common.{ℕ, ◌<◌, ◌≤◌, List, [], length, get_or, replicate, sym, refl, ap, ◌∙◌, subst, arith, tests}
 use borrow.Author.Tests.{both_ways}
 use Rattle.std.proofs.lemmas.List.Elements.{All-nil}
-use Rattle.algebra.specs.Texts.{never_byte}
-use Rattle.sequences.specs.Rows.{absent, padded}
-use Rattle.sequences.specs.Sequences.{rows_with}
+use Rattle.sequences.specs.Rows.{absent}
 use Rattle.sequences.specs.Walks.{Impossible, SomeImpossible, Sound}
 use Rattle.sequences.specs.declared.row.Row.{Row}
 use Rattle.sequences.proofs.Closings.{at_end, granted, impossible_at, never_closes, no_end, no_sum, one_impossible, possible_all, proper_at, sum_text, too_many}

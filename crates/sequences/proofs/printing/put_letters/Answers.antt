@@ -1,4 +1,4 @@
-use Rattle.std.proofs.Common.{◌≡◌, ℕ, ◌+◌, ◌≤◌, Bool, sym, arith}
+use Rattle.std.proofs.Common.{ℕ, ◌+◌, Bool, sym, arith}
 use Rattle.sequences.specs.Rows.{listed}
 use Rattle.sequences.specs.declared.row.Factor.TheVariants.{Letter}
 use Rattle.sequences.proofs.Fronts.{upto_none, upto_put, upto_pass, upto_is}

@@ -1,5 +1,5 @@
-use Rattle.std.proofs.Common.{◌≡◌, sym, arith}
-use Rattle.sequences.specs.Lines.{stands, PairsUpto}
+use Rattle.std.proofs.Common.{arith}
+use Rattle.sequences.specs.Lines.{stands}
 use Rattle.sequences.specs.Rows.{made}
 use Rattle.sequences.proofs.Fronts.{pairs_none, pairs_put, grid_room}
 use Rattle.sequences.proofs.printing.put_pairs.Goals as goal

@@ -1,10 +1,8 @@
-use Rattle.std.proofs.Common.{◌≡◌, ℕ, ◌+◌, ◌<◌, ◌≤◌, List, [], length, get_or, take, set, replicate, sym, refl, ap, ◌∙◌, subst, arith, rules}
+use Rattle.std.proofs.Common.{◌≡◌, ℕ, ◌+◌, ◌<◌, ◌≤◌, List, [], length, get_or, take, set, replicate, sym, refl, ap, ◌∙◌, subst, arith}
 use Rattle.std.proofs.lemmas.List.{take_all}
-use Rattle.sequences.specs.Rows.{Fitting, absent, blank, entered}
-use Rattle.sequences.specs.Scans.{State, Keeps, Ready, run, start, ends, step, stepped}
+use Rattle.sequences.specs.Scans.{State, Keeps, Ready, run, start, step, stepped}
 use Rattle.sequences.specs.declared.row.Row.{Row}
 use Rattle.sequences.specs.declared.scan.Reading.{Reading}
-use Rattle.sequences.specs.declared.scan.Step.{Step}
 use Rattle.sequences.proofs.Padded.{padded_none, padded_blank}
 use Rattle.sequences.proofs.Scanning.{Good, step_good, fits_some, run_next, keeps_none, keeps_some, ends_small}
 use Rattle.sequences.proofs.scan.scan_sum.Goals as goal

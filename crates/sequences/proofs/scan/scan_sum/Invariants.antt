@@ -1,4 +1,4 @@
-use Rattle.std.proofs.Common.{◌≡◌, ◌≤◌, length, take}
+use Rattle.std.proofs.Common.{◌≤◌, take}
 use Rattle.sequences.specs.Scans.{Keeps, Ready, run, start}
 use Rattle.sequences.proofs.scan.scan_sum.Given as goal
 

@@ -1,5 +1,4 @@
-use Rattle.std.proofs.Common.{◌≡◌, ℕ, Bool, true, false, sym, ap, ◌∙◌, ap₂, arith}
-use Rattle.algebra.specs.Terms.{dating_of}
+use Rattle.std.proofs.Common.{true, false, sym, ◌∙◌, ap₂, arith}
 use Rattle.sequences.specs.Dates.{counts, later}
 use Rattle.sequences.proofs.Datings.{latest_none, latest_next, read_at}
 use Rattle.sequences.proofs.row.Row.latest.Goals as goal

@@ -1,8 +1,8 @@
-use Rattle.std.proofs.Common.{◌≡◌, ℕ, Bool, true, false, sym, ◌∙◌}
+use Rattle.std.proofs.Common.{ℕ, Bool, sym, ◌∙◌}
 use Rattle.algebra.specs.Terms.{dating_of}
 use Rattle.sequences.specs.Dates.{pair_meets}
 use Rattle.sequences.specs.Walks.{all}
-use Rattle.sequences.proofs.Datings.{all_none, all_next, all_fails, all_end}
+use Rattle.sequences.proofs.Datings.{all_none, all_next, all_fails}
 use Rattle.sequences.proofs.row.Row.meets.Goals as goal
 
 pub loop-v-init : goal.loop-v-init

@@ -1,7 +1,7 @@
-use Rattle.std.proofs.Common.{◌≡◌, ℕ, ◌<◌, Bool, true, false, length, sym, ap, ◌∙◌, ap₂, arith}
+use Rattle.std.proofs.Common.{ℕ, Bool, sym, ◌∙◌, ap₂, arith}
 use Rattle.algebra.specs.Terms.{dating_of}
 use Rattle.sequences.specs.Dates.{pair_meets}
-use Rattle.sequences.proofs.Datings.{all_none, all_next, all_fails, all_end, read_at}
+use Rattle.sequences.proofs.Datings.{all_none, all_next, all_fails, read_at}
 use Rattle.sequences.proofs.row.Row.meets_from.Goals as goal
 
 pub loop-w-init : goal.loop-w-init

@@ -1,4 +1,4 @@
-use Rattle.std.proofs.Common.{◌≡◌, ℕ, ◌<◌, Bool, false, ◌&&◌, sym, refl, ap, ◌∙◌, subst, arith}
+use Rattle.std.proofs.Common.{◌≡◌, ℕ, Bool, false, ◌&&◌, sym, refl, subst, arith}
 use Rattle.sequences.specs.Masks.{linked}
 use Rattle.sequences.specs.Rows.{precedes}
 use Rattle.sequences.specs.Walks.{any}

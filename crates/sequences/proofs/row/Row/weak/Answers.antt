@@ -1,4 +1,4 @@
-use Rattle.std.proofs.Common.{◌≡◌, ℕ, Bool, ◌||◌, length, get_or, ap, ◌∙◌, arith, length-set, rules}
+use Rattle.std.proofs.Common.{ℕ, ◌||◌, ap, ◌∙◌, arith, length-set}
 use Rattle.sequences.specs.Masks.{has}
 use Rattle.sequences.specs.Rows.{precedes, ties}
 use Rattle.sequences.proofs.Bits.{has_or}

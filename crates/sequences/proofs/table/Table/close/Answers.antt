@@ -1,5 +1,5 @@
-use Rattle.std.proofs.Common.{◌≡◌, Ok, Err, refl}
-use Rattle.sequences.specs.Closing.{Closed, RowsHold}
+use Rattle.std.proofs.Common.{Ok, Err, refl}
+use Rattle.sequences.specs.Closing.{RowsHold}
 use Rattle.sequences.specs.Tables.{Holds}
 use Rattle.sequences.proofs.Closings.{refused_exactly, refused_nowhere}
 use Rattle.sequences.proofs.Held.{held_few, held_filled, held_sound, held_possible, held_short, held_dates, held_happen, held_happens}

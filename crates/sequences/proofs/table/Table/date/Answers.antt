@@ -1,4 +1,4 @@
-use Rattle.std.proofs.Common.{◌≡◌, Ok, Err, sym, subst}
+use Rattle.std.proofs.Common.{Ok, Err, sym, subst}
 use borrow.Author.Tests.{both_ways}
 use Rattle.sequences.specs.declared.refusals.TableRefusal.TheVariants.{NoDating}
 use Rattle.algebra.specs.Kinds.{Same}

@@ -1,4 +1,4 @@
-use Rattle.std.proofs.Common.{◌≡◌, ℕ, suc, ◌-◌, ◌<◌, length, drop, sym, ap, ◌∙◌, subst, ap₂, arith}
+use Rattle.std.proofs.Common.{◌≡◌, ℕ, suc, ◌-◌, ◌<◌, drop, sym, ap, ◌∙◌, ap₂, arith}
 use Rattle.algebra.specs.Terms.{dating_of, joined}
 use Rattle.algebra.specs.declared.Operator.TheVariants.{Or}
 use Rattle.sequences.specs.Dates.{row_date, table_date}

@@ -1,4 +1,4 @@
-use Rattle.std.proofs.Common.{◌≡◌, replicate, sym, refl, ap, ◌∙◌, arith}
+use Rattle.std.proofs.Common.{replicate, sym, ap, ◌∙◌, arith}
 use Rattle.sequences.specs.declared.row.Row.{Row}
 use Rattle.sequences.proofs.Padded.{padded_none}
 use Rattle.sequences.proofs.table.Table.new.Goals as goal
