@@ -1,8 +1,8 @@
 -- What a closing makes of a table.
 -- Assumes nothing.
-use Rattle.std.proofs.Common.{◌≡◌, ℕ, ◌<◌, true, false, List, IfOk, IfErr, Ok, Err, All, ap, arith}
+use Rattle.std.proofs.Common.{◌≡◌, ℕ, ◌<◌, true, false, IfOk, IfErr, Ok, Err, All, ap, arith}
 use borrow.Author.Tests.{both_ways}
-use Rattle.algebra.specs.Refusals.{Refused, Granted}
+use Rattle.algebra.specs.Refusals.{Refused}
 use Rattle.sequences.specs.Closing as texts
 use Rattle.sequences.specs.Closing.{CloseAsks}
 use Rattle.sequences.specs.Codes.{close_code}

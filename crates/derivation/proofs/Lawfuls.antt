@@ -1,6 +1,7 @@
 -- Every run is lawful, and so is every closing after it.
 -- Assumes nothing.
-use Rattle.std.proofs.Common.{◌≡◌, ℕ, ◌<◌, ◌≤◌, true, ◌⊎◌, List, [], ◌∷◌, length, Ok, Err, All, Result, sym, refl, ap, ◌∙◌, subst, inl, inr, arith}
+use Rattle.std.proofs.Common.{◌≡◌, ℕ, true, ◌⊎◌, List, [], ◌∷◌, length, Ok, Err, All, Result, sym, refl, ap, ◌∙◌, subst, inl, inr, arith}
+use Rattle.std.proofs.lemmas.List.Elements.{All-nil}
 use Rattle.algebra.specs.Kinds.{Kind, Same}
 use Rattle.algebra.specs.Refusals.{Refused, Granted}
 use Rattle.algebra.specs.Terms.{never, dating_of}
@@ -13,7 +14,7 @@ use Rattle.sequences.specs.Closing.{CloseAsks, SomeNever}
 use Rattle.sequences.specs.Codes.{close_code}
 use Rattle.sequences.specs.Dates.{HappensByTicks, table_date}
 use Rattle.sequences.specs.Rows.{row_with}
-use Rattle.sequences.specs.Sequences.{TextCloses, rows_with}
+use Rattle.sequences.specs.Sequences.{rows_with}
 use Rattle.sequences.specs.Tables.{TableDated, held}
 use Rattle.sequences.specs.Walks.{Impossible}
 use Rattle.sequences.specs.declared.refusals.TableRefusal.{TableRefusal}
@@ -72,7 +73,7 @@ none_never text e w =
     omega (arith, w.never.low, ap length rows)
 
 no_rows : (P : List Factor → Type 0) (x : List (List Factor)) → rows_with x ≡ [] → All P x
-no_rows P [] e = tt
+no_rows P [] e = All-nil P
 no_rows P (fs ∷ x) e = absurd (omega (arith, ap length e))
 
 -- what a bench with a tree refuses, its text refuses

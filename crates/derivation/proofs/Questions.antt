@@ -1,13 +1,13 @@
 -- The answers to the questions that a bench is asked.
 -- Assumes nothing.
-use Rattle.std.proofs.Common.{◌≡◌, ℕ, ◌<◌, ◌≤◌, Bool, true, List, ◌++◌, length, drop, Ok, Err, Result, sym, ◌∙◌, subst, arith}
+use Rattle.std.proofs.Common.{◌≡◌, ℕ, ◌<◌, ◌≤◌, true, List, ◌++◌, length, drop, Ok, Err, Result, sym, ◌∙◌, subst, arith}
 use Rattle.algebra.specs.Kinds.{Kind, Same}
 use Rattle.algebra.specs.Refusals.{Refused, Granted}
 use Rattle.algebra.specs.Terms.{Term, leaf, never, node, Among, dating_of}
 use Rattle.algebra.specs.Texts.{text_of, text_date, Whole, IsText}
 use Rattle.algebra.proofs.Bytes.{every_place}
 use Rattle.algebra.proofs.Derived.{text_date_lem}
-use Rattle.texts.specs.Evaluation.{evaluation_code, EvaluationAsks, Evaluated}
+use Rattle.texts.specs.Evaluation.{EvaluationAsks, Evaluated}
 use Rattle.texts.specs.Spans.{Spans}
 use Rattle.texts.specs.declared.evaluation.EvaluationRefusal.{EvaluationRefusal}
 use Rattle.texts.specs.declared.evaluation.EvaluationRefusal.TheVariants.{NoText, NoDating, SmallWork}
@@ -15,7 +15,7 @@ use Rattle.texts.proofs.Rows.{some_bytes}
 use Rattle.steps.specs.Refusals.{step_code}
 use Rattle.steps.specs.declared.refusal.StepRefusal.{StepRefusal}
 use Rattle.steps.specs.declared.refusal.StepRefusal.TheVariants.{NoTree, Form, Supplies, Place, NoFit, TooLong}
-use Rattle.derivation.specs.Dating.{DatingAsks, TextDated, DatedAs, TermAsks, TermAt}
+use Rattle.derivation.specs.Dating.{DatingAsks, TextDated, DatedAs, TermAsks}
 use Rattle.derivation.specs.Model.{State}
 
 -- DATES

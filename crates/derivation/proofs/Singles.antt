@@ -1,6 +1,6 @@
 -- Each call has one outcome, and so the same calls have the same answers and lead to the same state.
 -- Assumes nothing.
-use Rattle.std.proofs.Common.{◌≡◌, ℕ, ◌<◌, true, cond, eqb, List, [], ◌∷◌, ◌++◌, map, length, Ok, Err, Result, sym, refl, ap, ◌∙◌, subst, arith}
+use Rattle.std.proofs.Common.{◌≡◌, ℕ, ◌<◌, true, cond, eqb, List, [], ◌∷◌, ◌++◌, map, length, Ok, Err, sym, refl, ap, ◌∙◌, subst, arith}
 use Rattle.algebra.specs.Refusals.{Granted}
 use Rattle.trees.specs.Reading.{gives, refuses}
 use Rattle.trees.specs.Refusals.{tree_code}
@@ -14,7 +14,7 @@ use Rattle.steps.specs.declared.refusal.StepRefusal.TheVariants.{NoTree, Form, S
 use Rattle.steps.proofs.Answering.{one_step_answer}
 use Rattle.steps.proofs.Fields.{says_one}
 use Rattle.derivation.specs.Model.{State, Answer, Opened, BenchAsks, Grantable, moved, Stepped}
-use Rattle.derivation.specs.Law.{Known, opening, stepping, Call, tree_bytes, step_bytes, asked, Happened, Run, begun, then}
+use Rattle.derivation.specs.Law.{Known, opening, stepping, asked, Happened, Run, begun, then}
 
 -- a code tells its refusal
 tree_back : ℕ → TreeRefusal

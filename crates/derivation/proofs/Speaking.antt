@@ -1,7 +1,7 @@
 -- Where the dates of the letters are linked, so are those of rows and tables; and so numbers speak for tables too.
 -- Assumes nothing.
-use Rattle.std.proofs.Common.{◌≡◌, ℕ, zero, suc, Bool, true, false, cond, not, ◌&&◌, T, List, [], ◌∷◌, Some, None, Option, sym, refl, ap, ◌∙◌, subst, ap₂}
-use Rattle.algebra.specs.Kinds.{Kind, Same}
+use Rattle.std.proofs.Common.{◌≡◌, ℕ, zero, suc, Bool, true, false, cond, not, ◌&&◌, T, List, [], ◌∷◌, Some, None, Option, sym, subst}
+use Rattle.algebra.specs.Kinds.{Kind}
 use Rattle.algebra.specs.Links.{Link}
 use Rattle.algebra.specs.Ranks.{ranks}
 use Rattle.algebra.specs.Terms.{dating_of}
@@ -10,7 +10,7 @@ use Rattle.algebra.specs.declared.Operator.TheVariants.{Or, And}
 use Rattle.algebra.proofs.Links.{joined_linked, linked, either}
 use Rattle.algebra.proofs.Numbers.{pool, ranked, pool_link}
 use Rattle.algebra.proofs.Ranks.{rank, Ranked}
-use Rattle.sequences.specs.Dates.{asked, pair_meets, meets, later, latest, or_never, counts, row_date, table_date}
+use Rattle.sequences.specs.Dates.{asked, meets, later, latest, or_never, counts, row_date, table_date}
 use Rattle.sequences.specs.Rows.{precedes, ties}
 use Rattle.sequences.specs.Walks.{all}
 use Rattle.sequences.specs.declared.row.Row.{Row}

@@ -1,7 +1,7 @@
 -- The steps of a file, one more at a time.
 -- Assumes nothing.
-use Rattle.std.proofs.Common.{◌≡◌, ℕ, ◌+◌, ◌*◌, ◌<◌, ◌≤◌, List, [], ◌∷◌, length, Some, None, Ok, Err, Option, Result, sym, refl, ap, ◌∙◌, subst, arith, length-append, Bor}
-use Rattle.steps.specs.Files.{Begins, CutOff, NextRecord, answer_at, fault_at}
+use Rattle.std.proofs.Common.{◌≡◌, ℕ, ◌+◌, ◌*◌, ◌≤◌, List, ◌∷◌, length, Some, None, Ok, Err, Option, Result, sym, ap, ◌∙◌, subst, arith, length-append, Bor}
+use Rattle.steps.specs.Files.{Begins, NextRecord, answer_at, fault_at}
 use Rattle.steps.specs.declared.file.StepFault.{StepFault}
 use Rattle.steps.specs.declared.refusal.StepRefusal.{StepRefusal}
 use Rattle.steps.specs.declared.refusal.StepRefusal.TheVariants.{Form}

@@ -13,8 +13,8 @@ use sequences::table::Table;
 // The table's date. It is the same as that of the tree last opened: whatever calls a bench has known, if it was then
 // closed into this table.
 pub fn table_date<D: Date>(table: &Table, dating: &[D]) -> Result<D, TableRefusal>
-    ensures value { TableDated kind dating.now table.now result }
-    ensures law { (h : List Known) (s : State) (old : List Row) (text : List ℕ) → Run h s → Closed s old (Ok tt) (held table.now) → TreeText h text → DatedAs kind dating.now text result }
+    ensures value { TableDated D.kind dating.now table.now result }
+    ensures law { (h : List Known) (s : State) (old : List Row) (text : List ℕ) → Run h s → Closed s old (Ok tt) (held table.now) → TreeText h text → DatedAs D.kind dating.now text result }
 {
     table.date(dating)
 }
@@ -22,7 +22,7 @@ pub fn table_date<D: Date>(table: &Table, dating: &[D]) -> Result<D, TableRefusa
 // A text and a table that have the same date over every kind whose dates are numbers have it under the dating, of
 // whatever kind.
 pub fn numbers_speak_for_tables<D: Date>(dating: &[D])
-    ensures { TablesSpeak kind dating.now }
+    ensures { TablesSpeak D.kind dating.now }
 {
     let _ = dating;
 }

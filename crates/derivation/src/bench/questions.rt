@@ -55,8 +55,8 @@ impl Bench {
 
     // The date of the present text. It is the same as that of the tree last opened, whatever calls have led here.
     pub fn date<D: Date>(&self, dating: &[D], work: &mut [D]) -> Result<D, EvaluationRefusal>
-        ensures value { TextDated kind dating.now (length work.old) (state_of self.now).present result }
-        ensures law { (h : List Known) (text : List ℕ) → Run h (state_of self.now) → TreeText h text → DatedAs kind dating.now text result }
+        ensures value { TextDated D.kind dating.now (length work.old) (state_of self.now).present result }
+        ensures law { (h : List Known) (text : List ℕ) → Run h (state_of self.now) → TreeText h text → DatedAs D.kind dating.now text result }
         ensures sized { length work.new ≡ length work.old }
         ensures left { OnErr result (work.new ≡ work.old) }
     {
@@ -66,8 +66,8 @@ impl Bench {
 
     // The date of the source text, which is that of the tree last opened; no tree is dated never.
     pub fn source_date<D: Date>(&self, dating: &[D], work: &mut [D]) -> Result<D, EvaluationRefusal>
-        ensures value { TextDated kind dating.now (length work.old) (state_of self.now).source result }
-        ensures law { (h : List Known) (text : List ℕ) → Run h (state_of self.now) → TreeText h text → DatedAs kind dating.now text result }
+        ensures value { TextDated D.kind dating.now (length work.old) (state_of self.now).source result }
+        ensures law { (h : List Known) (text : List ℕ) → Run h (state_of self.now) → TreeText h text → DatedAs D.kind dating.now text result }
         ensures sized { length work.new ≡ length work.old }
         ensures left { OnErr result (work.new ≡ work.old) }
     {

@@ -1,4 +1,4 @@
-use Rattle.std.proofs.Common.{◌≡◌, ℕ, List, Ok, Err, sym, refl, ◌∙◌, subst}
+use Rattle.std.proofs.Common.{ℕ, List, Err, sym, refl, ◌∙◌, subst}
 use Rattle.sequences.specs.Closing as texts
 use Rattle.sequences.specs.Tables.{held, Holds}
 use Rattle.sequences.specs.declared.refusals.CloseRefusal.TheVariants.{NoTree}

@@ -1,4 +1,4 @@
-use Rattle.std.proofs.Common.{◌≡◌, ◌≤◌, false, [], sym, subst, arith}
+use Rattle.std.proofs.Common.{[], sym, subst, arith}
 use Rattle.derivation.specs.Law.{Run, begun, going, Lawful}
 use Rattle.derivation.proofs.Calls.{born, blank_whole, blank_derived}
 use Rattle.derivation.proofs.Lawfuls.{lawful}
@@ -8,19 +8,13 @@ pub invariant_of-result : goal.invariant_of-result
 invariant_of-result c =
     let x = c.never.ensures in
     let y = c.never-2.ensures in
-    let few : 0 ≤ 24 = omega arith in (
-      few,
-      (
-        ∣ blank_whole 0 _ x ∣₁,
-        (
-          ∣ blank_whole 0 _ y ∣₁,
-          (
-            ∣ blank_derived _ _ x y ∣₁,
-            (∣ ([], subst (Run []) (sym (born c.never.result c.never-2.result x y)) begun) ∣₁, tt),
-          ),
-        ),
-      ),
-    )
+    record {
+      few = omega arith;
+      source_whole = ∣ blank_whole 0 _ x ∣₁;
+      present_whole = ∣ blank_whole 0 _ y ∣₁;
+      reached = ∣ blank_derived _ _ x y ∣₁;
+      ran = ∣ ([], subst (Run []) (sym (born c.never.result c.never-2.result x y)) begun) ∣₁;
+    }
 
 pub returns : goal.returns
 returns c =

@@ -1,4 +1,4 @@
-use Rattle.std.proofs.Common.{◌≡◌, ℕ, true, List, ◌∷◌, Ok, Err, sym, refl, ap, ◌∙◌, subst}
+use Rattle.std.proofs.Common.{true, ◌∷◌, Ok, Err, sym, refl, subst}
 use mathlib.Core.Logic.{∥∥₁_map}
 use Rattle.std.proofs.lemmas.Result.{err_from_is_err_and}
 use Rattle.algebra.specs.Steps.{Derived, start}
@@ -6,8 +6,8 @@ use Rattle.texts.specs.Held.{used}
 use Rattle.trees.specs.Reading.{Outcome, refuses}
 use Rattle.trees.specs.Refusals.{tree_code}
 use Rattle.trees.specs.declared.refusal.TreeRefusal.{TreeRefusal}
-use Rattle.derivation.specs.Law.{Known, opening, Run, then, Lawful}
-use Rattle.derivation.specs.Model.{Answer, Opened}
+use Rattle.derivation.specs.Law.{opening, then}
+use Rattle.derivation.specs.Model.{Opened}
 use Rattle.derivation.specs.Stands.{stands}
 use Rattle.derivation.specs.Views.{state_of}
 use Rattle.derivation.proofs.Calls.{outcome_few}
@@ -29,19 +29,14 @@ invariant_of-self c =
     let bs = c.args.tree.now in
     let is = c.in_ok-read.ensures in
     let w = is.source.whole in
-    let d : Derived (used t.source) (used t.source) = record { from = w.term; to = w.term; begins = w.written; ends = w.written; steps = start } in (
-      outcome_few bs _ is.outcome,
-      (
-        ∣ w ∣₁,
-        (
-          ∣ w ∣₁,
-          (
-            ∣ d ∣₁,
-            (∥∥₁_map c.args.self.now.ran (λ r. (opening bs (Ok tt) ∷ r.0, then (opening bs (Ok tt)) r.1 (is.outcome, refl, refl))), tt),
-          ),
-        ),
-      ),
-    )
+    let d : Derived (used t.source) (used t.source) = record { from = w.term; to = w.term; begins = w.written; ends = w.written; steps = start } in
+    record {
+      few = outcome_few bs _ is.outcome;
+      source_whole = ∣ w ∣₁;
+      present_whole = ∣ w ∣₁;
+      reached = ∣ d ∣₁;
+      ran = ∥∥₁_map c.args.self.now.ran (λ r. (opening bs (Ok tt) ∷ r.0, then (opening bs (Ok tt)) r.1 (is.outcome, refl, refl)));
+    }
 
 pub returns : goal.returns
 returns c =

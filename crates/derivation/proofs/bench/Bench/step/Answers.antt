@@ -1,4 +1,4 @@
-use Rattle.std.proofs.Common.{◌≡◌, ℕ, true, List, ◌∷◌, Ok, Err, sym, refl, ap, ◌∙◌, subst}
+use Rattle.std.proofs.Common.{◌≡◌, true, ◌∷◌, Ok, Err, sym, refl, subst}
 use borrow.Author.Tests.{both_ways}
 use mathlib.Core.Logic.{∥∥₁_map}
 use Rattle.std.proofs.lemmas.Result.{err_from_is_err_and}
@@ -6,10 +6,9 @@ use Rattle.algebra.specs.Refusals.{Refused}
 use Rattle.texts.specs.Held.{used}
 use Rattle.steps.specs.Refusals.{step_code}
 use Rattle.steps.specs.Stepping.{StepAsks}
-use Rattle.steps.specs.declared.refusal.StepRefusal.{StepRefusal}
 use Rattle.steps.specs.declared.refusal.StepRefusal.TheVariants.{NoTree}
-use Rattle.derivation.specs.Law.{Known, stepping, Run, then, Lawful}
-use Rattle.derivation.specs.Model.{Answer, Stepped}
+use Rattle.derivation.specs.Law.{stepping, then}
+use Rattle.derivation.specs.Model.{Stepped}
 use Rattle.derivation.specs.Stands.{stands}
 use Rattle.derivation.specs.Views.{state_of}
 use Rattle.steps.proofs.Answering.{answer_with_tree, no_tree}
@@ -39,19 +38,14 @@ invariant_of-self-2 c =
     let bs = c.args.bytes.now in
     let is = c.in_ok-text.ensures in
     let s = state_of old in
-    let o = answer_with_tree (s.opened ≡ true) s.present s.events bs c.if-not-self.false (Ok (used c.in_ok-text.text)) is.answer in (
-      old.few,
-      (
-        old.source_whole,
-        (
-          ∥∥₁_map old.present_whole is.whole,
-          (
-            ∥∥₁_map old.reached (is.derived _),
-            (∥∥₁_map old.ran (λ r. (stepping bs (Ok tt) ∷ r.0, then (stepping bs (Ok tt)) r.1 (o.0, o.1, refl))), tt),
-          ),
-        ),
-      ),
-    )
+    let o = answer_with_tree (s.opened ≡ true) s.present s.events bs c.if-not-self.false (Ok (used c.in_ok-text.text)) is.answer in
+    record {
+      few = old.few;
+      source_whole = old.source_whole;
+      present_whole = ∥∥₁_map old.present_whole is.whole;
+      reached = ∥∥₁_map old.reached (is.derived _);
+      ran = ∥∥₁_map old.ran (λ r. (stepping bs (Ok tt) ∷ r.0, then (stepping bs (Ok tt)) r.1 (o.0, o.1, refl)));
+    }
 
 pub returns : goal.returns
 returns c =

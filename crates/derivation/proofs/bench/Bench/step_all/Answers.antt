@@ -1,4 +1,4 @@
-use Rattle.std.proofs.Common.{◌≡◌, ℕ, ◌<◌, List, length, Ok, Err, Result, sym, ap, ◌∙◌, subst, arith}
+use Rattle.std.proofs.Common.{◌≡◌, Err, sym, ap, ◌∙◌, subst, arith}
 use Rattle.std.proofs.lemmas.Result.{err_from_is_err_and}
 use Rattle.steps.specs.Files.{Begins}
 use Rattle.steps.specs.declared.file.StepFault.{StepFault}
@@ -57,4 +57,4 @@ loop-bytes-preserved c =
 pub returns : goal.returns
 returns c h run =
     made_ended h c.args.file.now c.loop-bytes.step c.loop-bytes.left.now (state_of c.loop-bytes.self) (c.loop-bytes.invariant.0 h run)
-    c.next_record.result _ c.next_record.ensures.next (sym c.at_step.ensures ∙ c.in_ok-bytes.was) c.in-default.is
+    c.next_record.result _ c.next_record.ensures.next (sym c.at_step.ensures ∙ c.in_ok-bytes.was) c.in_default.is

@@ -1,8 +1,7 @@
-use Rattle.std.proofs.Common.{◌≡◌, ℕ, ◌-◌, ◌<◌, List, ◌++◌, length, take, drop, sym, refl, ap, ◌∙◌, subst}
+use Rattle.std.proofs.Common.{◌≡◌, ℕ, List, ◌++◌, drop, sym, ap, ◌∙◌, subst}
 use mathlib.Core.Logic.{∥∥₁_elim}
 use mathlib.Core.HLevel.{⊥_prop}
 use Rattle.algebra.specs.Texts.{text_of}
-use Rattle.texts.specs.Held.{used}
 use Rattle.texts.specs.Spans.{Spans}
 use Rattle.derivation.specs.Views.{state_of}
 use Rattle.texts.proofs.Rows.{spans_part}
