@@ -49,7 +49,7 @@ fn tell_row(rt: &HostRuntime, table: &Table, row: usize) -> io::Result<()> {
         return Ok(());
     };
     match from_utf8(&buffer[0..length]) {
-        Ok(line) => print!(rt, "{line}"),
+        Ok(line) => print!(rt; "{line}"),
         Err(_) => Ok(()),
     }
 }
