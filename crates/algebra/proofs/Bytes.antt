@@ -1,12 +1,12 @@
 -- Each byte of a text belongs to its token.
 -- Assumes nothing.
-use Rattle.std.proofs.Common.{◌≡◌, ℕ, ◌+◌, ◌≤◌, eqb, leb, List, [], ◌++◌, sym, refl, ap, ◌∙◌, subst, arith, le→leb, eqb→eq, leb→le}
+use Rattle.std.proofs.Common.{◌≡◌, ℕ, ◌+◌, ◌≤◌, eqb, leb, List, [], ◌++◌, refl, ap, ◌∙◌, subst, arith, le→leb, eqb→eq, leb→le}
 use Rattle.algebra.specs.declared.Operator.{Operator}
 use Rattle.algebra.specs.declared.Operator.TheVariants.{Or, And, Before, Simultaneous, Inclusive}
 use Rattle.algebra.specs.declared.Token.{Token}
 use Rattle.algebra.specs.declared.Token.TheVariants.{Letter, Never, Joins, Unknown}
 use Rattle.algebra.specs.Terms.{Term}
-use Rattle.algebra.specs.Texts.{operator_byte, never_byte, token, event_byte, event_letter, event_token, text_of, terms, Stands, OneReading, ReadsTexts, EveryPlace}
+use Rattle.algebra.specs.Texts.{operator_byte, never_byte, token, event_byte, event_letter, event_token, text_of, terms, OneReading, ReadsTexts, EveryPlace}
 use Rattle.algebra.specs.Replacing.{PutsTerms}
 use Rattle.algebra.proofs.Tests.{choose, skip, took}
 use Rattle.algebra.proofs.Texts.{Spelling, spot_at, put_at, one_reading, read_back, read_text}

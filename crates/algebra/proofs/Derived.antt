@@ -5,7 +5,7 @@ use Rattle.algebra.specs.Kinds.{Kind, Same}
 use Rattle.algebra.specs.Terms.{Term, date, dating_of, inst}
 use Rattle.algebra.specs.Texts.{text_of, text_date, single, event_byte, event_token}
 use Rattle.algebra.specs.Rules.{numbered, old_side, new_side}
-use Rattle.algebra.specs.Steps.{Derived, DerivedKeeps, DerivedKeepsUnder, StepsDerive, next}
+use Rattle.algebra.specs.Steps.{DerivedKeeps, DerivedKeepsUnder, StepsDerive, next}
 use Rattle.algebra.proofs.Texts.{read_text}
 use Rattle.algebra.proofs.Bytes.{event_spelling, puts_terms}
 use Rattle.algebra.proofs.Steps.{reached_keeps}

@@ -1,6 +1,6 @@
 -- Where the dates of letters are linked, so are those of every term; a kind is linked to itself by sameness.
 -- Assumes nothing.
-use Rattle.std.proofs.Common.{◌≡◌, Bool, true, false, cond, not, ◌&&◌, T, ◌⊎◌, sym, refl, ap, ◌∙◌, subst, ap₂, inl, inr}
+use Rattle.std.proofs.Common.{◌≡◌, Bool, true, false, cond, not, ◌&&◌, T, refl, ap, subst, ap₂, inl, inr}
 use Rattle.algebra.specs.Kinds.{Kind, Same}
 use Rattle.algebra.specs.Links.{Link, LinkedDates}
 use Rattle.algebra.specs.Terms.{Term, leaf, never, node, joined, date, inst}

@@ -1,7 +1,7 @@
 -- The dates of a list, as numbers: kinds whose dates are numbers speak for every kind.
 -- Assumes nothing.
-use Rattle.std.proofs.Common.{◌≡◌, ℕ, zero, suc, T, List, [], ◌∷◌, ◌++◌, sym, refl, subst}
-use Rattle.algebra.specs.Kinds.{Kind, Same}
+use Rattle.std.proofs.Common.{ℕ, zero, suc, T, List, [], ◌∷◌, ◌++◌, sym, refl, subst}
+use Rattle.algebra.specs.Kinds.{Kind}
 use Rattle.algebra.specs.Links.{Link, NumbersSpeak}
 use Rattle.algebra.specs.Ranks.{ranks}
 use Rattle.algebra.specs.Terms.{dating_of}

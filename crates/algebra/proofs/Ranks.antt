@@ -1,6 +1,6 @@
 -- The dates of a list, counted down from never: the rank of a date is how many dates of the list it is before.
 -- Assumes nothing.
-use Rattle.std.proofs.Common.{◌≡◌, ℕ, ◌+◌, ◌<◌, ◌≤◌, Bool, true, false, not, T, leb, ◌⊎◌, List, [], ◌∷◌, length, sym, refl, ◌∙◌, ap₂, inl, inr, arith, le→leb, leb→le, T_not}
+use Rattle.std.proofs.Common.{◌≡◌, ℕ, ◌+◌, ◌<◌, ◌≤◌, Bool, true, false, not, T, leb, List, [], ◌∷◌, length, sym, refl, ◌∙◌, ap₂, inl, inr, arith, le→leb, leb→le, T_not}
 use Rattle.algebra.specs.Kinds.{Kind}
 use Rattle.algebra.specs.Links.{Link}
 use Rattle.algebra.specs.Ranks.{ranks}

@@ -1,6 +1,6 @@
 -- A call has one answer only.
 -- Assumes nothing.
-use Rattle.std.proofs.Common.{◌≡◌, ℕ, ◌<◌, ◌⊎◌, Ok, Err, Result, ap, inl, inr}
+use Rattle.std.proofs.Common.{◌≡◌, ℕ, Ok, Err, Result, ap, inl, inr}
 use Rattle.std.proofs.lemmas.Bool.{cases_order}
 use Rattle.algebra.specs.Refusals.{Refused, Granted, Answers}
 

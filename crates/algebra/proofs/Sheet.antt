@@ -1,6 +1,6 @@
 -- Ranks decide, and so each rule of the sheet keeps dates: by one test over the sheet, which antt computes.
 -- Assumes nothing.
-use Rattle.std.proofs.Common.{◌≡◌, ℕ, zero, suc, ◌-◌, ◌<◌, ◌≤◌, Bool, true, false, ◌&&◌, T, eqb, List, [], ◌∷◌, get_or, sym, refl, subst, arith, le→leb, eqb→eq}
+use Rattle.std.proofs.Common.{ℕ, zero, suc, ◌-◌, ◌<◌, Bool, true, false, ◌&&◌, T, eqb, List, [], ◌∷◌, get_or, sym, refl, subst, arith, le→leb, eqb→eq}
 use Rattle.algebra.specs.Kinds.{Kind, Same}
 use Rattle.algebra.specs.Links.{Link}
 use Rattle.algebra.specs.Ranks.{ranks, given, SameByRanks, RanksDecide}

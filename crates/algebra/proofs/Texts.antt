@@ -1,15 +1,14 @@
 -- Texts are read in one way only, and the term at a place can be put for another.
 -- Assumes nothing.
-use Rattle.std.proofs.Common.{◌≡◌, ℕ, zero, suc, ◌+◌, ◌-◌, ◌<◌, ◌≤◌, Bool, T, eqb, leb, ◌⊎◌, List, [], ◌∷◌, ◌++◌, length, take, drop, sym, refl, ap, ◌∙◌, subst, ap₂, inl, inr, append_assoc, append-nil, arith, le→leb, leb→le, length-append}
+use Rattle.std.proofs.Common.{◌≡◌, ℕ, zero, suc, ◌+◌, ◌-◌, ◌<◌, ◌≤◌, leb, List, [], ◌∷◌, ◌++◌, length, take, drop, sym, refl, ap, ◌∙◌, subst, ap₂, inl, inr, append_assoc, append-nil, arith, leb→le, length-append}
 use mathlib.Core.List.{append_cancel_left}
 use lib.Dec.{nleb→lt}
 use lib.Seq.{take-append-le, drop-append-le, take-append-add, drop-append-add}
 use Rattle.algebra.specs.Terms.{Term, leaf, never, node}
 use Rattle.algebra.specs.declared.Operator.{Operator}
-use Rattle.algebra.specs.declared.Operator.TheVariants.{Or, And, Before, Simultaneous, Inclusive}
 use Rattle.algebra.specs.declared.Token.{Token}
 use Rattle.algebra.specs.declared.Token.TheVariants.{Letter, Never, Joins, Unknown}
-use Rattle.algebra.specs.Texts.{operator_byte, never_byte, write, Read, end, bad, on, paired, front, terms}
+use Rattle.algebra.specs.Texts.{operator_byte, never_byte, write, Read, end, bad, on, front, terms}
 use Rattle.algebra.specs.Replacing.{Replaced, here, left, right, Put}
 use Rattle.algebra.specs.Sizes.{yes_or_no}
 

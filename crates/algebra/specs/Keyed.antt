@@ -1,6 +1,6 @@
 -- A kind whose dates are ordered by a number, and where a number above that of never is the same as never.
 -- Assumes nothing.
-use Rattle.std.specs.Prelude.{ℕ, min, Bool, nat_le}
+use Rattle.std.specs.Prelude.{ℕ, min, nat_le}
 use Rattle.std.proofs.Common.{arith, le→leb}
 use Rattle.algebra.specs.Kinds.{Kind}
 use Rattle.algebra.specs.Sizes.{leb_total, leb_trans}

@@ -1,6 +1,6 @@
 -- Refusals are tried in the rising order of their codes.
 -- Assumes nothing.
-use Rattle.std.specs.Prelude.{◌≡◌, ℕ, ◌<◌, Ok, Err, Result}
+use Rattle.std.specs.Prelude.{ℕ, ◌<◌, Ok, Err, Result}
 
 -- refused with e: what e asks for is missing, and what each lower code asks for is there
 pub record Refused {E : Type 0} (code : E → ℕ) (Asked : E → Type 0) (e : E) : Type 0 where

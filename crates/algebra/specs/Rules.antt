@@ -1,10 +1,8 @@
 -- The rule sheet, as it is written: two texts in prefix form for each rule, over the letters X, Y and Z.
 -- Assumes nothing.
-use Rattle.std.specs.Prelude.{◌≡◌, ℕ, ◌-◌, ◌<◌, ◌≤◌, Bool, true, false, cond, not, ◌&&◌, ◌||◌, T, List, [], ◌∷◌, map, length, codes, ◌==◌, slice_index_or}
+use Rattle.std.specs.Prelude.{◌≡◌, ℕ, ◌-◌, Bool, true, false, cond, not, ◌&&◌, ◌||◌, List, [], ◌∷◌, map, length, codes, ◌==◌, slice_index_or}
 use Prim.Native.String.{String}
-use Rattle.algebra.specs.Kinds.{Kind, Same}
-use Rattle.algebra.specs.Ranks.{ranks}
-use Rattle.algebra.specs.Terms.{Term, leaf, never, node, date}
+use Rattle.algebra.specs.Terms.{Term, leaf, never, node}
 use Rattle.algebra.specs.Texts.{token, terms, single, Read, end, bad, on}
 use Rattle.algebra.specs.declared.Token.{Token}
 use Rattle.algebra.specs.declared.Token.TheVariants.{Letter, Unknown}
