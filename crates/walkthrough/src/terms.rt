@@ -14,7 +14,7 @@ pub fn date_at<D: Date>(
     dating: &[D],
     work: &mut [D],
 ) -> Option<(usize, D)>
-    ensures told { Told kind dating.now text.now place result }
+    ensures told { Told D.kind dating.now text.now place result }
     ensures all { IsText text.now → place < length text.now → length dating.now ≡ 24 → 256 ≤ length work.old → is_some result ≡ true }
     ensures size { length work.new ≡ length work.old }
 {
