@@ -1,6 +1,6 @@
 -- A log that is held, tried and lifted is as it was.
 -- Assumes nothing.
-use Rattle.std.proofs.Common.{◌≡◌, ℕ, ◌+◌, true, List, is_err, Ok, Err, Result, sym, refl, ap, ◌∙◌, subst, arith}
+use Rattle.std.proofs.Common.{◌≡◌, ℕ, ◌+◌, true, List, is_err, Ok, Err, Result, refl, ap, ◌∙◌, arith}
 use Rattle.dates.specs.declared.Date.{Ghosts}
 use Rattle.failure_log.specs.Model.{State, HeldBy, Dropped, Lifted}
 use Rattle.failure_log.specs.declared.store.LogRefusal.{LogRefusal}

@@ -1,9 +1,9 @@
 -- A term that stands in a text is a text itself.
 -- Assumes nothing.
-use Rattle.std.proofs.Common.{◌≡◌, ℕ, ◌+◌, ◌-◌, ◌<◌, ◌≤◌, List, ◌++◌, length, take, drop, All, sym, ap, ◌∙◌, subst, arith, length-drop, length-take}
+use Rattle.std.proofs.Common.{ℕ, ◌+◌, ◌-◌, ◌<◌, List, length, take, drop, All, ap, subst, arith}
 use Rattle.std.proofs.lemmas.List.Elements.{All-take, All-drop}
 use Rattle.algebra.specs.Terms.{Term}
-use Rattle.algebra.specs.Texts.{IsText, text_of}
+use Rattle.algebra.specs.Texts.{IsText}
 use Rattle.texts.specs.Spans.{Spans}
 use Rattle.texts.proofs.Letters.{below_among, whole_below}
 use Rattle.texts.proofs.Rows.{spans_part}

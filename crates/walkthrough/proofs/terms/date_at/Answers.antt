@@ -1,4 +1,4 @@
-use Rattle.std.proofs.Common.{◌≡◌, ℕ, ◌<◌, List, ◌++◌, length, drop, sym, refl, ◌∙◌, subst, rules}
+use Rattle.std.proofs.Common.{◌≡◌, ℕ, ◌<◌, List, ◌++◌, length, drop, sym, refl, subst}
 use Rattle.algebra.specs.Texts.{text_of}
 use Rattle.algebra.proofs.Bytes.{every_place}
 use Rattle.texts.proofs.Evaluations.{granted}
