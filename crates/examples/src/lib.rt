@@ -6,11 +6,11 @@ ghost use Rattle.examples.specs.Worked.{WorkedExamples};
 #[cfg(test)]
 mod dates_of_texts;
 #[cfg(test)]
-mod sequences;
+mod sequences_of_texts;
 #[cfg(test)]
-mod steps;
+mod steps_of_texts;
 #[cfg(test)]
-mod trees;
+mod texts_of_trees;
 
 // The examples hold of the definitions that the contracts cite.
 pub fn examples_hold()

@@ -400,7 +400,7 @@ fn a_file_of_steps(rt: HostRuntime) -> Result<(), Fail> {
     let Ok(made) = apply_steps(text, 2, &file[0..10]) else {
         return Err(Fail::new("refused"));
     };
-    assert!(rt; made.as_bytes() == b"+*b<ab*b=ab");
+    assert!(rt; made.as_bytes() == b"+*b<ab*b=ab".as_slice());
     let Err(fault) = apply_steps(text, 2, &file) else {
         return Err(Fail::new("granted"));
     };
@@ -419,7 +419,7 @@ fn the_records_of_a_file(rt: HostRuntime) -> Result<(), Fail> {
     let Ok(Some((bytes, rest))) = next_record(&[0, 1, 7, 0]) else {
         return Err(Fail::new("no record"));
     };
-    assert!(rt; bytes == &[7] && rest == &[0]);
+    assert!(rt; bytes == [7].as_slice() && rest == [0].as_slice());
     assert!(rt; next_record(rest).is_err());
     let Ok(None) = next_record(&[]) else {
         return Err(Fail::new("no end"));
