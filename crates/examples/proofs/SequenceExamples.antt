@@ -1,7 +1,7 @@
 -- The worked examples of closing hold.
 -- Assumes nothing.
-use Rattle.std.proofs.Common.{◌≡◌, ℕ, T, List, [], ◌∷◌, codes, refl, arith}
-use Rattle.algebra.specs.Terms.{Term, leaf, node}
+use Rattle.std.proofs.Common.{List, [], ◌∷◌, codes, refl, arith}
+use Rattle.algebra.specs.Terms.{leaf, node}
 use Rattle.algebra.specs.declared.Operator.TheVariants.{And, Before}
 use Rattle.sequences.specs.Masks.{has}
 use Rattle.sequences.specs.Lines.{sifted, paired}

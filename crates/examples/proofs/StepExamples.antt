@@ -1,13 +1,13 @@
 -- The worked examples of steps hold.
 -- Assumes nothing.
-use Rattle.std.proofs.Common.{ℕ, List, [], ◌∷◌, None, codes, refl, arith, lit<, lit≤}
+use Rattle.std.proofs.Common.{ℕ, [], ◌∷◌, None, codes, refl, lit<, lit≤}
 use Rattle.algebra.specs.Rules.{lines, sheet}
 use Rattle.algebra.specs.Terms.{Term, leaf, node}
 use Rattle.algebra.specs.declared.Operator.TheVariants.{Before, Simultaneous}
 use Rattle.algebra.specs.declared.Variable.{Variable}
 use Rattle.algebra.specs.declared.Variable.TheVariants.{X, Y, Z}
 use Rattle.algebra.specs.declared.Way.TheVariants.{Forward}
-use Rattle.steps.specs.Records.{Request, Says, WholeTerm, the_rule, the_place, blank, put, supplied_for}
+use Rattle.steps.specs.Records.{Request, Says, WholeTerm, the_rule, the_place, supplied_for}
 use Rattle.steps.specs.Stepping.{Fits, Spells, SuppliesLacked}
 use Rattle.steps.proofs.Answering.{granted}
 use Rattle.examples.specs.Steps.{StepExamples}

@@ -1,6 +1,6 @@
 -- Worked examples of dates, computed from the definitions, as one proposition.
 -- Assumes nothing.
-use Rattle.std.specs.Prelude.{◌≡◌, ℕ, List, [], ◌∷◌, map, codes}
+use Rattle.std.specs.Prelude.{◌≡◌, ℕ, List, [], ◌∷◌, codes}
 use Prim.Native.String.{String}
 use Rattle.algebra.specs.Kinds.{Kind}
 use Rattle.algebra.specs.Terms.{dating_of}

@@ -2,7 +2,6 @@
 -- Assumes nothing.
 use Rattle.std.specs.Prelude.{◌≡◌, ℕ, List, [], ◌∷◌, ◌++◌, map, codes}
 use Rattle.std.proofs.Math.Option.{Option, none, some}
-use Prim.Native.String.{String}
 use Rattle.algebra.specs.Refusals.{Refused}
 use Rattle.algebra.specs.Texts.{term_of}
 use Rattle.sequences.specs.Closing.{CloseAsks}

@@ -1,6 +1,6 @@
 -- Worked examples of steps, computed from the definitions, as one proposition.
 -- Assumes nothing.
-use Rattle.std.specs.Prelude.{List, [], ◌∷◌, Ok, codes}
+use Rattle.std.specs.Prelude.{[], ◌∷◌, Ok, codes}
 use Rattle.steps.specs.Stepping.{StepAnswer}
 
 pub record StepExamples : Type 0 where
