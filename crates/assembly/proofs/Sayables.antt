@@ -45,7 +45,7 @@ blank_sized = record { place = omega arith; terms = λ v. elim v as (λ u. Each 
 
 bytes_after : (xs ys : List ℕ) → Bytes (xs ++ ys) → Bytes ys
 bytes_after [] ys h = h
-bytes_after (x ∷ xs) ys h = bytes_after xs ys h.1
+bytes_after (x ∷ xs) ys h = bytes_after xs ys h
 
 -- the same for each letter
 supplies : (P : Variable → Option (List ℕ) → Type 0) (q : Request) → P X q.x → P Y q.y → P Z q.z → (v : Variable) → P v (supplied_for q v)
