@@ -1,7 +1,6 @@
 -- Files of step records: one step more, and one list only.
 -- Assumes nothing.
-use Rattle.std.proofs.Common.{◌≡◌, ℕ, ◌+◌, ◌*◌, ◌<◌, ◌≤◌, Bool, true, false, List, [], ◌∷◌, ◌++◌, length, sym, refl, ap, ◌∙◌, subst, append_assoc, append-nil, arith, length-append}
-use Rattle.algebra.specs.declared.Variable.TheVariants.{X, Y, Z}
+use Rattle.std.proofs.Common.{◌≡◌, ℕ, ◌+◌, ◌*◌, ◌<◌, ◌≤◌, Bool, true, false, List, [], ◌∷◌, ◌++◌, length, sym, refl, ap, ◌∙◌, subst, append_assoc, arith, length-append}
 use Rattle.steps.specs.Files.{Begins}
 use Rattle.steps.specs.Records.{Request, Field, the_rule, the_way, the_place, the_term, Written, Next, Fields, Says, bits, blank, bit_stands}
 use Rattle.steps.proofs.Fields.{says_one}

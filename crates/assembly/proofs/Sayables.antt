@@ -1,12 +1,13 @@
 -- What can be said by a step record, and that nothing else can.
 -- Assumes nothing.
-use Rattle.std.proofs.Common.{◌≡◌, ℕ, ◌+◌, ◌*◌, ◌<◌, ◌≤◌, Bool, true, false, ◌&&◌, List, [], ◌∷◌, ◌++◌, length, Some, None, Decides, All, Option, sym, refl, ap, ◌∙◌, subst, arith}
+use Rattle.std.proofs.Common.{◌≡◌, ℕ, ◌<◌, ◌≤◌, Bool, true, false, ◌&&◌, List, [], ◌∷◌, ◌++◌, length, Some, None, Decides, Option, sym, ap, ◌∙◌, subst, arith}
 use Rattle.std.proofs.lemmas.Bool.{and_parts, and_from}
+use Rattle.std.proofs.lemmas.List.Elements.{All-head, All-tail}
 use Rattle.algebra.specs.Terms.{Term, leaf, never, node}
-use Rattle.algebra.specs.Texts.{Whole, text_of}
+use Rattle.algebra.specs.Texts.{text_of}
 use Rattle.algebra.specs.declared.Variable.{Variable}
 use Rattle.algebra.specs.declared.Variable.TheVariants.{X, Y, Z}
-use Rattle.steps.specs.Records.{Request, Field, the_rule, the_way, the_place, the_term, Written, WholeTerm, put, Next, Fields, Says, blank, bits, bit_stands, supplied_for}
+use Rattle.steps.specs.Records.{Request, Field, the_rule, the_way, the_place, the_term, Written, put, Next, Fields, Says, blank, bits, bit_stands, supplied_for}
 use Rattle.assembly.specs.Writing.{Fits, Each, Sized, WritableTerm, Sayable, Bytes}
 
 module _ (events : ℕ) (q : Request) where
@@ -43,9 +44,15 @@ sized events q s = record { place = s.place; terms = λ v. fits_writable events 
 blank_sized : Sized blank
 blank_sized = record { place = omega arith; terms = λ v. elim v as (λ u. Each (λ t. Fits (the_term u t)) (supplied_for blank u)) [ X ↦ tt | Y ↦ tt | Z ↦ tt ] }
 
+byte : (x : ℕ) (xs : List ℕ) → Bytes (x ∷ xs) → x < 256
+byte x xs h = All-head (λ b. b < 256) x xs h
+
+bytes_past : (x : ℕ) (xs : List ℕ) → Bytes (x ∷ xs) → Bytes xs
+bytes_past x xs h = All-tail (λ b. b < 256) x xs h
+
 bytes_after : (xs ys : List ℕ) → Bytes (xs ++ ys) → Bytes ys
 bytes_after [] ys h = h
-bytes_after (x ∷ xs) ys h = bytes_after xs ys h
+bytes_after (x ∷ xs) ys h = bytes_after xs ys (bytes_past x (xs ++ ys) h)
 
 -- the same for each letter
 supplies : (P : Variable → Option (List ℕ) → Type 0) (q : Request) → P X q.x → P Y q.y → P Z q.z → (v : Variable) → P v (supplied_for q v)
@@ -55,14 +62,15 @@ abbrev Writable : Variable → Option (List ℕ) → Type 0
 Writable v o = Each (λ t. Fits (the_term v t)) o
 
 put_sized : (f : Field) (bs rest : List ℕ) (q : Request) → Written f bs rest → Bytes bs → Sized q → Sized (put f q) × Bytes rest
-put_sized (the_rule n) bs rest q w h s = (record { place = s.place; terms = supplies Writable (put (the_rule n) q) (s.terms X) (s.terms Y) (s.terms Z) }, (subst Bytes w h).1)
-put_sized (the_way y) bs rest q w h s = (record { place = s.place; terms = supplies Writable (put (the_way y) q) (s.terms X) (s.terms Y) (s.terms Z) }, (subst Bytes w h).1)
+put_sized (the_rule n) bs rest q w h s = (record { place = s.place; terms = supplies Writable (put (the_rule n) q) (s.terms X) (s.terms Y) (s.terms Z) }, bytes_past _ rest (subst Bytes w h))
+put_sized (the_way y) bs rest q w h s = (record { place = s.place; terms = supplies Writable (put (the_way y) q) (s.terms X) (s.terms Y) (s.terms Z) }, bytes_past _ rest (subst Bytes w h))
 put_sized (the_place p) bs rest q w h s =
     let b = subst Bytes w.2 h in
-    (record { place = omega (arith, b.0, b.1.0, w.3); terms = supplies Writable (put (the_place p) q) (s.terms X) (s.terms Y) (s.terms Z) }, b.1.1)
-put_sized (the_term X t) bs rest q w h s = (record { place = s.place; terms = supplies Writable (put (the_term X t) q) (w.0, w.1) (s.terms Y) (s.terms Z) }, bytes_after t rest (subst Bytes w.2 h).1)
-put_sized (the_term Y t) bs rest q w h s = (record { place = s.place; terms = supplies Writable (put (the_term Y t) q) (s.terms X) (w.0, w.1) (s.terms Z) }, bytes_after t rest (subst Bytes w.2 h).1)
-put_sized (the_term Z t) bs rest q w h s = (record { place = s.place; terms = supplies Writable (put (the_term Z t) q) (s.terms X) (s.terms Y) (w.0, w.1) }, bytes_after t rest (subst Bytes w.2 h).1)
+    let a = bytes_past w.0 (w.1 ∷ rest) b in
+    (record { place = omega (arith, byte w.0 (w.1 ∷ rest) b, byte w.1 rest a, w.3); terms = supplies Writable (put (the_place p) q) (s.terms X) (s.terms Y) (s.terms Z) }, bytes_past w.1 rest a)
+put_sized (the_term X t) bs rest q w h s = (record { place = s.place; terms = supplies Writable (put (the_term X t) q) (w.0, w.1) (s.terms Y) (s.terms Z) }, bytes_after t rest (bytes_past (length t) (t ++ rest) (subst Bytes w.2 h)))
+put_sized (the_term Y t) bs rest q w h s = (record { place = s.place; terms = supplies Writable (put (the_term Y t) q) (s.terms X) (w.0, w.1) (s.terms Z) }, bytes_after t rest (bytes_past (length t) (t ++ rest) (subst Bytes w.2 h)))
+put_sized (the_term Z t) bs rest q w h s = (record { place = s.place; terms = supplies Writable (put (the_term Z t) q) (s.terms X) (s.terms Y) (w.0, w.1) }, bytes_after t rest (bytes_past (length t) (t ++ rest) (subst Bytes w.2 h)))
 
 next_sized : (stands : Bool) (bit : ℕ) (q r : Request) (bs rest : List ℕ) → Next stands bit q bs r rest → Bytes bs → Sized q → Sized r × Bytes rest
 next_sized true bit q r bs rest n h s =
@@ -82,5 +90,5 @@ short v (Some t) w = w.1
 
 pub said_sayable : (events : ℕ) (bs : List ℕ) (q : Request) → Bytes bs → Says events bs q → Sayable events q
 said_sayable events bs q h s =
-    let all = fields_sized s.map bits blank s.fields q s.said (subst Bytes s.begins h).1 blank_sized in
+    let all = fields_sized s.map bits blank s.fields q s.said (bytes_past s.map s.fields (subst Bytes s.begins h)) blank_sized in
     record { number = s.number; place = all.place; terms = λ v. (s.terms v, short v (supplied_for q v) (all.terms v)) }

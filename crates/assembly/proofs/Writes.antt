@@ -1,12 +1,12 @@
 -- Fields written one after another are a step record.
 -- Assumes nothing.
-use Rattle.std.proofs.Common.{◌≡◌, ℕ, ◌<◌, ◌≤◌, Bool, true, false, cond, ◌&&◌, eqb, ltb, List, [], ◌∷◌, ◌++◌, length, is_some, Some, None, Option, sym, refl, ap, ◌∙◌, subst, append_assoc, append-nil, arith}
+use Rattle.std.proofs.Common.{◌≡◌, ℕ, ◌<◌, ◌≤◌, Bool, true, false, ◌&&◌, eqb, ltb, List, [], ◌∷◌, ◌++◌, length, is_some, Some, None, Option, sym, refl, ap, ◌∙◌, subst, append_assoc, append-nil}
 use Rattle.std.proofs.lemmas.Bool.{cond_both, eqb-true, ltb-true, and_parts}
 use Rattle.algebra.specs.declared.Variable.{Variable}
 use Rattle.algebra.specs.declared.Variable.TheVariants.{X, Y, Z}
 use Rattle.algebra.specs.declared.Way.{Way}
 use Rattle.algebra.specs.declared.Way.TheVariants.{Forward, Backward}
-use Rattle.steps.specs.Records.{Request, Field, the_rule, the_way, the_place, the_term, bit_of, bit_stands, put, Next, Fields, Says, blank, bits}
+use Rattle.steps.specs.Records.{Request, Field, the_rule, the_place, the_term, bit_of, bit_stands, put, Next, Fields, Says, blank, bits}
 use Rattle.assembly.specs.Writing.{Added, AddedIf, Fits, Each, way_field, place_field, term_field, map_of, Sayable}
 
 -- a term after its length

@@ -1,6 +1,6 @@
 -- What a step record is written from: its fields, and what can be said at all.
 -- Assumes nothing.
-use Rattle.std.specs.Prelude.{◌≡◌, ℕ, ◌+◌, ◌<◌, ◌≤◌, Bool, cond, List, [], ◌++◌, length, Some, None, All, Option, ◌==◌}
+use Rattle.std.specs.Prelude.{◌≡◌, ℕ, ◌+◌, ◌<◌, ◌≤◌, Bool, cond, List, ◌++◌, length, Some, None, All, Option, ◌==◌}
 use Rattle.algebra.specs.declared.Variable.{Variable}
 use Rattle.algebra.specs.declared.Way.{Way}
 use Rattle.algebra.specs.declared.Way.TheVariants.{Forward, Backward}

@@ -1,5 +1,4 @@
 use Rattle.std.proofs.lemmas.Bool.{both_ways}
-use Rattle.steps.specs.Readings.{request_of}
 use Rattle.steps.proofs.Fields.{says_one}
 use Rattle.assembly.proofs.Sayables.{sized, said_sayable}
 use Rattle.assembly.proofs.step_bytes.write_step.Goals as goal

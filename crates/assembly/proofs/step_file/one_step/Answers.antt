@@ -1,4 +1,4 @@
-use Rattle.std.proofs.Common.{ℕ, List, [], length, vec_items, sym, ap, subst, arith}
+use Rattle.std.proofs.Common.{ℕ, List, [], length, vec_items, ap, subst, arith}
 use Rattle.steps.specs.Files.{Begins}
 use Rattle.assembly.proofs.Filing.{one_filed, says_short}
 use Rattle.assembly.proofs.step_file.one_step.Goals as goal

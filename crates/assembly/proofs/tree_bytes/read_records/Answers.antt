@@ -8,10 +8,10 @@ loop-k-init c =
     let bs = c.args.bytes.now in
     (subst (λ (x : List Record). Underread bs x bs) (sym c.new-records.ensures.items) (read_none bs), c.new-records.ensures.len)
 
-pub returns-in-default : goal.returns-in-default
-returns-in-default c =
+pub returns-in_default : goal.returns-in_default
+returns-in_default c =
     let len : length (vec_items c.loop-k.records) < c.args.count = omega (arith, c.loop-k.records.ok.0) in
-    no_more _ (vec_items c.loop-k.records) c.loop-k.rest.now c.loop-k.invariant.0 c.args.count len c.in-default.ensures.1
+    no_more _ (vec_items c.loop-k.records) c.loop-k.rest.now c.loop-k.invariant.0 c.args.count len c.in_default.ensures.1
 
 pub loop-k-preserved : goal.loop-k-preserved
 loop-k-preserved c = (
