@@ -29,6 +29,6 @@ returns-in_err-add_word-2 c =
 
 pub returns : goal.returns
 returns c =
-    let none = split_parts 32 c.loop-word.left.now None c.in-default.ensures.cases (omega arith) in
+    let none = split_parts 32 c.loop-word.left.now None c.in_default.ensures.cases (omega arith) in
     let w = cut_last _ _ _ c.loop-word.left.now (spaceless_from _ none) c.in_ok-add_word-2.ensures c.loop-word.invariant.1 in
     record { words = w; one = one_list _; back = cut_back _ _ w }
