@@ -1,6 +1,6 @@
 -- The words that are written are read back as the same.
 -- Assumes nothing.
-use Rattle.std.proofs.Common.{◌≡◌, ℕ, ◌^◌, ◌<◌, ◌≤◌, true, false, eqb, ◌⊎◌, List, [], ◌∷◌, ◌++◌, get_or, Some, None, codes, decimal, Option, sym, refl, ap, ◌∙◌, subst, inl, inr, append-nil, arith, MatchOption}
+use Rattle.std.proofs.Common.{◌≡◌, ℕ, ◌^◌, ◌<◌, ◌≤◌, eqb, List, [], ◌∷◌, ◌++◌, get_or, Some, None, codes, decimal, Option, sym, refl, ap, subst, inl, inr, append-nil, arith, MatchOption}
 use Rattle.std.proofs.lemmas.Fmt.{decimal_is_IsNumeral}
 use Rattle.std.proofs.lemmas.Bool.{cond_both, eqb-true}
 use Rattle.algebra.specs.Rules.{variable_byte}
@@ -11,7 +11,6 @@ use Rattle.algebra.specs.declared.Way.TheVariants.{Forward, Backward}
 use Rattle.steps.specs.Readings.{request_of}
 use Rattle.steps.specs.Records.{Request}
 use Rattle.steps.specs.declared.record.StepRecord.{StepRecord}
-use Rattle.trees.specs.declared.record.Gate.TheVariants.{Or, And, Pand, Before}
 use Rattle.trees.specs.declared.record.Record.{Record}
 use Rattle.trees.specs.declared.record.Record.TheVariants as tree
 use Rattle.trees.specs.Records.{first, second}

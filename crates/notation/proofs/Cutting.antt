@@ -1,7 +1,8 @@
 -- Lines cut into words.
 -- Assumes nothing.
-use Rattle.std.proofs.Common.{◌≡◌, ℕ, suc, ◌<◌, ◌⊎◌, List, [], ◌∷◌, ◌++◌, map, length, get_or, drop, All, sym, refl, ap, ◌∙◌, subst, inl, inr, ⊎_elim, append_assoc, append-nil, arith, length-append, Bor}
+use Rattle.std.proofs.Common.{◌≡◌, ℕ, ◌<◌, List, [], ◌∷◌, ◌++◌, map, length, get_or, drop, All, sym, refl, ap, ◌∙◌, subst, inl, inr, append_assoc, append-nil, arith, length-append, Bor}
 use Rattle.std.proofs.lemmas.List.{map-append}
+use Rattle.std.proofs.lemmas.List.Elements.{All-head, All-tail, All-from_get_or}
 use Rattle.notation.specs.Words.{Plain, Words, none, space, last, more, WordAdded, OneList, joined}
 
 abbrev Spaceless : List ℕ → Type 0
@@ -9,8 +10,13 @@ Spaceless w = All (λ b. b ≡ 32 → ⊥) w
 
 -- by places
 pub spaceless_from : (w : List ℕ) → ((i : ℕ) → i < length w → get_or w i 0 ≡ 32 → ⊥) → Spaceless w
-spaceless_from [] h = tt
-spaceless_from (b ∷ w) h = (h 0 (omega arith), spaceless_from w (λ i l. h (suc i) (omega arith)))
+spaceless_from w h = All-from_get_or (λ b. b ≡ 32 → ⊥) w 0 h
+
+first_of : (b : ℕ) (w : List ℕ) → Spaceless (b ∷ w) → b ≡ 32 → ⊥
+first_of b w s = All-head (λ c. c ≡ 32 → ⊥) b w s
+
+rest_of : (b : ℕ) (w : List ℕ) → Spaceless (b ∷ w) → Spaceless w
+rest_of b w s = All-tail (λ c. c ≡ 32 → ⊥) b w s
 
 -- what is left of the line is cut into ws, and the whole into what was done and ws
 abbrev pub Cut : List ℕ → List (List ℕ) → List ℕ → Type 0
@@ -19,22 +25,22 @@ Cut line done left = (ws : List (List ℕ)) → Words left ws → Words line (do
 -- a word that ends at a space is the first only of one list
 head_one : (w v xs ys : List ℕ) → Spaceless w → Spaceless v → w ++ (32 ∷ xs) ≡ v ++ (32 ∷ ys) → (w ≡ v) × (xs ≡ ys)
 head_one [] [] xs ys a b e = (refl, ap (λ (l : List ℕ). drop 1 l) e)
-head_one [] (c ∷ v) xs ys a b e = absurd (b.0 (sym (ap (λ (l : List ℕ). get_or l 0 0) e)))
-head_one (c ∷ w) [] xs ys a b e = absurd (a.0 (ap (λ (l : List ℕ). get_or l 0 0) e))
+head_one [] (c ∷ v) xs ys a b e = absurd (first_of c v b (sym (ap (λ (l : List ℕ). get_or l 0 0) e)))
+head_one (c ∷ w) [] xs ys a b e = absurd (first_of c w a (ap (λ (l : List ℕ). get_or l 0 0) e))
 head_one (c ∷ w) (d ∷ v) xs ys a b e =
-    let rest = head_one w v xs ys a.1 b.1 (ap (λ (l : List ℕ). drop 1 l) e) in
+    let rest = head_one w v xs ys (rest_of c w a) (rest_of d v b) (ap (λ (l : List ℕ). drop 1 l) e) in
     ((λ i. ap (λ (l : List ℕ). get_or l 0 0) e i ∷ rest.0 i), rest.1)
 
 no_space : (w v xs : List ℕ) → Spaceless w → w ≡ v ++ (32 ∷ xs) → ⊥
 no_space [] [] xs a e = omega (arith, ap length e)
 no_space [] (c ∷ v) xs a e = omega (arith, ap length e)
-no_space (c ∷ w) [] xs a e = a.0 (ap (λ (l : List ℕ). get_or l 0 0) e)
-no_space (c ∷ w) (d ∷ v) xs a e = no_space w v xs a.1 (ap (λ (l : List ℕ). drop 1 l) e)
+no_space (c ∷ w) [] xs a e = first_of c w a (ap (λ (l : List ℕ). get_or l 0 0) e)
+no_space (c ∷ w) (d ∷ v) xs a e = no_space w v xs (rest_of c w a) (ap (λ (l : List ℕ). drop 1 l) e)
 
 -- a line that begins with a space does not begin with a word
 not_front : (w line rest : List ℕ) → Plain w → 32 ∷ line ≡ w ++ rest → ⊥
 not_front [] line rest p e = omega (arith, p.some)
-not_front (b ∷ w) line rest p e = p.spaceless.0 (sym (ap (λ (l : List ℕ). get_or l 0 0) e))
+not_front (b ∷ w) line rest p e = first_of b w p.spaceless (sym (ap (λ (l : List ℕ). get_or l 0 0) e))
 
 not_empty : (w rest : List ℕ) → [] ≡ w ++ (32 ∷ rest) → ⊥
 not_empty w rest e = omega (arith, ap length e, length-append w (32 ∷ rest))
@@ -91,8 +97,8 @@ words_more ws vs w e = ap (map (λ x. x.now)) e ∙ map-append (λ x. x.now) ws 
 
 pub joined_words : (ws : List (List ℕ)) → All Plain ws → Words (joined ws) ws
 joined_words [] p = none
-joined_words (w ∷ []) p = last w p.0
-joined_words (w ∷ v ∷ ws) p = more w (joined (v ∷ ws)) (v ∷ ws) p.0 (joined_words (v ∷ ws) p.1)
+joined_words (w ∷ []) p = last w (All-head Plain w [] p)
+joined_words (w ∷ v ∷ ws) p = more w (joined (v ∷ ws)) (v ∷ ws) (All-head Plain w (v ∷ ws) p) (joined_words (v ∷ ws) (All-tail Plain w (v ∷ ws) p))
 
 pub cut_back : (line : List ℕ) (vs : List (List ℕ)) → Words line vs → (ws : List (List ℕ)) → All Plain ws → line ≡ joined ws → vs ≡ ws
 cut_back line vs f ws p e = one_list line vs ws f (subst (λ (x : List ℕ). Words x ws) (sym e) (joined_words ws p))

@@ -2,7 +2,6 @@
 -- Assumes nothing.
 use Rattle.std.proofs.Common.{◌≡◌, ℕ, cond, eqb, List, [], ◌∷◌, map, length, get_or, sym, refl, ap, ◌∙◌, subst, arith, Bor}
 use Rattle.std.proofs.lemmas.List.{length-map}
-use Rattle.trees.specs.declared.record.Gate.{Gate}
 use Rattle.trees.specs.declared.record.Gate.TheVariants.{Or, And, Pand, Before}
 use Rattle.trees.specs.declared.record.Record.{Record}
 use Rattle.notation.specs.declared.records.Kind.{Kind}

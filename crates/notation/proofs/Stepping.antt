@@ -1,6 +1,6 @@
 -- What words say a step.
 -- Assumes nothing.
-use Rattle.std.proofs.Common.{◌≡◌, ℕ, ◌-◌, ◌<◌, ◌⊎◌, List, [], ◌∷◌, map, length, get_or, take, drop, Some, None, codes, Option, sym, refl, ap, ◌∙◌, subst, inl, inr, arith, Bor}
+use Rattle.std.proofs.Common.{◌≡◌, ℕ, ◌-◌, ◌<◌, List, [], ◌∷◌, map, length, get_or, take, drop, Some, None, codes, Option, sym, refl, ap, ◌∙◌, subst, inl, inr, arith, Bor}
 use Rattle.std.proofs.lemmas.List.{take_rest}
 use Rattle.algebra.specs.declared.Variable.{Variable}
 use Rattle.algebra.specs.declared.Variable.TheVariants.{X, Y, Z}
@@ -8,7 +8,7 @@ use Rattle.algebra.specs.declared.Way.{Way}
 use Rattle.algebra.specs.declared.Way.TheVariants.{Forward, Backward}
 use Rattle.steps.specs.Records.{Request}
 use Rattle.notation.specs.Numbers.{Number}
-use Rattle.notation.specs.Steps.{NotFirst, WayWords, AtPlace, AtZero, PlaceWords, term_word, TermWords, StepWords, OneStep}
+use Rattle.notation.specs.Steps.{WayWords, PlaceWords, TermWords, StepWords, OneStep}
 use Rattle.notation.proofs.Naming.{one_number}
 
 -- BORROWED WORDS

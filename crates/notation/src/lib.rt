@@ -4,5 +4,5 @@
 pub mod inputs;
 pub mod numbers;
 pub mod records;
-pub mod steps;
+pub mod step_words;
 pub mod words;

@@ -4,11 +4,11 @@ use Rattle.std.proofs.lemmas.Str.Parse.{digit_at}
 use Rattle.std.proofs.lemmas.Str.{IsUtf8-from_ascii}
 use Rattle.notation.proofs.numbers.read_number.Goals as goal
 
-pub returns-in-default·2 : goal.returns-in-default·2
-returns-in-default·2 c n h d = let p = digit_at c.args.word.now 0 d.digits d.some in omega (arith, p.0, p.1)
+pub returns-in_default-2 : goal.returns-in_default-2
+returns-in_default-2 c n h d = let p = digit_at c.args.word.now 0 d.digits d.some in omega (arith, p.0, p.1)
 
-pub returns-in-default·3 : goal.returns-in-default·3
-returns-in-default·3 c n h d = let p = digit_at c.args.word.now 0 d.digits d.some in omega (arith, p.0, p.1)
+pub returns-in_default-3 : goal.returns-in_default-3
+returns-in_default-3 c n h d = let p = digit_at c.args.word.now 0 d.digits d.some in omega (arith, p.0, p.1)
 
 pub returns-in-Err : goal.returns-in-Err
 returns-in-Err c n h d = c.in-Err.ensures.cases.0 (IsUtf8-from_ascii _ (IsAscii-from_digits _ d.digits))

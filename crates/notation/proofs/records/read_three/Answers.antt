@@ -1,4 +1,4 @@
-use Rattle.std.proofs.Common.{ℕ, List, sym, subst, MatchOption}
+use Rattle.std.proofs.Common.{ℕ, List, subst}
 use Rattle.notation.specs.Inputs.{Names}
 use Rattle.notation.proofs.Recording.{no_kind, no_first, no_second, said}
 use Rattle.notation.proofs.records.read_three.Goals as goal

@@ -1,4 +1,4 @@
-use Rattle.std.proofs.Common.{ℕ, List, ◌∷◌, map, length, Some, None, sym, refl, ap, subst, arith, length-append, Bor, rules}
+use Rattle.std.proofs.Common.{ℕ, List, ◌∷◌, map, length, Some, None, sym, ap, subst, arith, length-append, Bor, rules}
 use Rattle.std.proofs.lemmas.Str.Pattern.{split_parts}
 use Rattle.std.proofs.lemmas.Result.{err_from_is_err_and}
 use Rattle.notation.proofs.Cutting.{Cut, spaceless_from, one_list, cut_none, cut_more, cut_last, cut_back}

@@ -1,9 +1,9 @@
-use Rattle.std.proofs.Common.{ℕ, ◌<◌, List, Some, None, subst, arith, rules, true-eqb, false-eqb}
+use Rattle.std.proofs.Common.{ℕ, ◌<◌, List, Some, None, subst, arith, true-eqb, false-eqb}
 use Rattle.std.proofs.lemmas.List.{length-map}
 use Rattle.notation.specs.Numbers.{Number}
 use Rattle.notation.proofs.Back.{step_back}
 use Rattle.notation.proofs.Stepping.{no_step, no_rule_lem, no_place, left_over_lem, step_said, one_step}
-use Rattle.notation.proofs.steps.read_step.Goals as goal
+use Rattle.notation.proofs.step_words.read_step.Goals as goal
 
 pub returns-in_err-number : goal.returns-in_err-number
 returns-in_err-number c =

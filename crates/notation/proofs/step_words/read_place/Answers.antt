@@ -1,7 +1,7 @@
 use Rattle.std.proofs.Common.{ℕ, ◌<◌, List, subst, rules}
 use Rattle.notation.specs.Numbers.{Number}
 use Rattle.notation.proofs.Stepping.{no_number}
-use Rattle.notation.proofs.steps.read_place.Goals as goal
+use Rattle.notation.proofs.step_words.read_place.Goals as goal
 
 pub returns-in_err-place : goal.returns-in_err-place
 returns-in_err-place c =

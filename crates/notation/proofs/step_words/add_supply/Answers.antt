@@ -1,6 +1,6 @@
-use Rattle.std.proofs.Common.{ℕ, List, [], ◌∷◌, ◌++◌, vec_items, ap, ◌∙◌}
+use Rattle.std.proofs.Common.{ℕ, [], ◌∷◌, ◌++◌, vec_items, ap, ◌∙◌}
 use Rattle.notation.proofs.Spacing.{term_added}
-use Rattle.notation.proofs.steps.add_supply.Goals as goal
+use Rattle.notation.proofs.step_words.add_supply.Goals as goal
 
 pub returns : goal.returns
 returns c =
