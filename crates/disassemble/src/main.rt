@@ -3,7 +3,7 @@
 
 use assembly::tree_bytes::{Layout, read_layout};
 use notation::records::record_line;
-use notation::steps::step_line;
+use notation::step_words::step_line;
 use std::fs::File;
 use std::io;
 use std::io::Read;

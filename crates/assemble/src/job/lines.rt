@@ -13,7 +13,7 @@ use assembly::step_file::add_step;
 use assembly::tree_bytes::write_tree;
 use notation::numbers::read_byte;
 use notation::records::read_record;
-use notation::steps::read_step;
+use notation::step_words::read_step;
 use std::alloc::Global;
 use steps::record::StepRecord;
 use trees::record::Record;
