@@ -3,11 +3,12 @@
 
 usage: python3 tools/spell_names.py [--list]      at the top of the repository
 
-Functions, lemmas, fields and constructors get snake case (`neverByte` and `never-byte` become `never_byte`); types, facts and modules
-keep their camel case, also where such a name stands within another (`All-more` becomes `All_more`). A lemma that would get the name of
-a function gets `_lem` after it (`text-date` beside `textDate`). The names that Rattle makes (goals and what their answers cite, as
-`loop-v-preserved`) stay. Where two names would still meet in one file the script says so and writes nothing. --list prints the renamings.
-It was run once, after the kit's own port.py; what is written since has these spellings.
+Functions, lemmas, fields and constructors get snake case (`neverByte` and `never-byte` become `never_byte`); types, facts and
+modules keep their camel case, also where such a name stands within another (`All-more` becomes `All_more`). Where two names would
+become one, the one in camel case gets it, and the other has `_lem` after it (the lemma `text-date` beside the definition `textDate`).
+The names that Rattle makes (goals and what their answers cite, as `loop-v-preserved`) stay. Where two names would still meet in one
+file the script says so and writes nothing. --list prints the renamings.
+It is run once, after the kit's own port.py; what is written since has these spellings.
 """
 
 import os
@@ -87,9 +88,7 @@ def turned(path, text, table):
 
     def one(m):
         dot, name = m.groups()
-        if name not in table or name in made or (name in library and name not in table):
-            return m.group(0)
-        if name in library:
+        if name not in table or name in made or name in library:
             return m.group(0)
         # behind a dot, in an answer, a name with a dash is one that Rattle made
         if dot and "-" in name and answers and path_head(text, m.start()) in ("c", "g", "l", "w", "goal"):
