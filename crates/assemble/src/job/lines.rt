@@ -2,6 +2,7 @@
 ghost use Rattle.std.specs.Prelude.{◌≡◌, ℕ, false, List, [], map, IfOk, MatchResult};
 ghost use Rattle.steps.specs.Readings.{request_of};
 ghost use Rattle.steps.specs.Records.{Request};
+ghost use Rattle.assembly.specs.Faults.{WhereNone};
 ghost use Rattle.assembly.specs.Layouts.{Lays};
 ghost use Rattle.assembly.specs.StepFiles.{StepFile};
 ghost use Rattle.assemble.specs.Taking.{EventsTaken, RecordTaken, StepTaken, Taken};
@@ -116,9 +117,9 @@ impl Job {
         }
     }
 
-    // The bytes of the tree.
+    // The bytes of the tree, or that no bytes lay it out.
     pub fn tree_bytes(&self, heap: Global) -> Result<Vec<u8>, BytesFault>
-        ensures { IfOk result (λ v. Lays v.items (held_of self.now).events (held_of self.now).records) }
+        ensures { MatchResult result (λ v. Lays v.items (held_of self.now).events (held_of self.now).records) (λ e. WhereNone e ((bs : List ℕ) → Lays bs (held_of self.now).events (held_of self.now).records → ⊥)) }
     {
         write_tree(heap, self.events, self.records.as_slice())
     }
