@@ -1,6 +1,7 @@
 pub mod Rows
 pub mod Letters
-pub mod Stacks
+pub mod Numbered
 pub mod Readings
+pub mod Reversed
 pub mod Evaluations
 pub mod Grow

@@ -1,30 +1,66 @@
-use Rattle.std.proofs.Common.{◌≡◌, ℕ, drop, subst, arith}
+use Rattle.std.proofs.Common.{ℕ, ◌+◌, length, drop, ap, ◌∙◌, subst, arith}
+use Rattle.std.proofs.lemmas.Iterator.{YieldsList-from_slice}
+use Rattle.std.proofs.lemmas.Iterator.Adapters.{YieldsList-from_skip}
+use Rattle.std.proofs.lemmas.Iterator.Consumers.{YieldsList-turn, YieldsList-end, YieldsList-from_enumerate}
+use Rattle.std.proofs.lemmas.List.{length_push}
+use Rattle.algebra.specs.Texts.{event_token}
+use Rattle.texts.proofs.Numbered.{numbered_turn, numbered_end}
 use Rattle.texts.proofs.Rows.{Alike, alike_after, after_small, stop_unknown, stop_end, one, done, spans}
 use Rattle.texts.proofs.scan.term_end.Goals as goal
 
-pub returns-then-end-bytes : goal.returns-then-end-bytes
-returns-then-end-bytes c t rest e =
-    stop_end 1 _ c.args.bytes.now c.loop-terms.terms c.loop-terms.end c.loop-terms-test.true c.if-end-bytes.true c.loop-terms.invariant.2 rest (one t _ rest e)
-
 pub returns-in_err-terms : goal.returns-in_err-terms
-returns-in_err-terms c = rw c.from_residual.ensures (λ t rest e.
-    stop_unknown 1 _ c.args.bytes.now c.loop-terms.terms c.loop-terms.end c.loop-terms-test.true c.if-end-bytes.false c.loop-terms.invariant.2
-    c.read_token.result c.read_token.ensures c.in_err-terms.ensures rest (one t _ rest e))
+returns-in_err-terms c =
+    let bytes = c.args.bytes.now in
+    let place = c.args.place in
+    let at = place + length c.loop-end.yielded in
+    let items = YieldsList-from_skip place (YieldsList-from_enumerate (YieldsList-from_slice bytes cc) cc) cc in
+    let turn =
+    numbered_turn bytes place (length c.loop-end.yielded) c.in-Some.end c.in-Some.byte.now
+    (YieldsList-turn items c.loop-end.yielded _ c.loop-end.yielded_by _ _ _ c.in-Some.is c.next.ensures.steps) in
+    rw c.from_residual.ensures (λ t rest e.
+    stop_unknown 1 (drop place bytes) bytes c.loop-end.terms at c.loop-end.invariant.0 turn.1.within c.loop-end.invariant.2
+    c.from.result (c.from.ensures ∙ ap event_token turn.1.byte) c.in_err-terms.ensures rest (one t _ rest e))
 
-pub loop-terms-preserved : goal.loop-terms-preserved
-loop-terms-preserved c =
-    let some = c.in_ok-terms.ensures in (
-      after_small c.read_token.result c.loop-terms.terms _ c.loop-terms.end c.loop-terms.invariant.0 some,
-      λ z. omega (arith, c.if-end-bytes.false),
-      alike_after 1 _ c.args.bytes.now c.loop-terms.terms c.loop-terms.end c.loop-terms-test.true c.if-end-bytes.false c.loop-terms.invariant.2
-          c.read_token.result c.read_token.ensures _ some,
+pub returns-then-terms-eq0 : goal.returns-then-terms-eq0
+returns-then-terms-eq0 c =
+    let bytes = c.args.bytes.now in
+    let place = c.args.place in
+    let at = place + length c.loop-end.yielded in
+    let items = YieldsList-from_skip place (YieldsList-from_enumerate (YieldsList-from_slice bytes cc) cc) cc in
+    let turn =
+    numbered_turn bytes place (length c.loop-end.yielded) c.in-Some.end c.in-Some.byte.now
+    (YieldsList-turn items c.loop-end.yielded _ c.loop-end.yielded_by _ _ _ c.in-Some.is c.next.ensures.steps) in
+    let after =
+    alike_after 1 (drop place bytes) bytes c.loop-end.terms at c.loop-end.invariant.0 turn.1.within c.loop-end.invariant.2
+    c.from.result (c.from.ensures ∙ ap event_token turn.1.byte) c.in_ok-terms.terms c.in_ok-terms.ensures in
+    let found = done (drop place bytes) bytes (at + 1) (subst (λ (n : ℕ). Alike 1 (drop place bytes) n (drop (at + 1) bytes)) c.if-terms-eq0.true after) in
+    rw turn.0 (found.0, spans bytes place (at + 1) found.0 (omega (arith, turn.1.within)) found.1)
+
+pub loop-end-preserved : goal.loop-end-preserved
+loop-end-preserved c =
+    let bytes = c.args.bytes.now in
+    let place = c.args.place in
+    let at = place + length c.loop-end.yielded in
+    let items = YieldsList-from_skip place (YieldsList-from_enumerate (YieldsList-from_slice bytes cc) cc) cc in
+    let turn =
+    numbered_turn bytes place (length c.loop-end.yielded) c.in-Some.end c.in-Some.byte.now
+    (YieldsList-turn items c.loop-end.yielded _ c.loop-end.yielded_by _ _ _ c.in-Some.is c.next.ensures.steps) in
+    let after =
+    alike_after 1 (drop place bytes) bytes c.loop-end.terms at c.loop-end.invariant.0 turn.1.within c.loop-end.invariant.2
+    c.from.result (c.from.ensures ∙ ap event_token turn.1.byte) c.in_ok-terms.terms c.in_ok-terms.ensures in
+    let few = after_small c.from.result c.loop-end.terms c.in_ok-terms.terms at c.loop-end.invariant.1 c.in_ok-terms.ensures in
+    let more = length_push c.loop-end.yielded (c.in-Some.end, c.in-Some.byte) in (
+      omega (arith, c.if-terms-eq0.false),
+      omega (arith, few, more),
+      subst (λ (n : ℕ). Alike 1 (drop place bytes) c.in_ok-terms.terms (drop n bytes)) (omega (arith, more)) after,
     )
 
 pub returns : goal.returns
-returns c =
+returns c t rest e =
     let bytes = c.args.bytes.now in
-    let zero : c.loop-terms.terms ≡ 0 = omega (arith, c.loop-terms-test.false) in
-    let found =
-    done _ bytes c.loop-terms.end
-    (subst (λ (n : ℕ). Alike 1 (drop c.args.place bytes) n (drop c.loop-terms.end bytes)) zero c.loop-terms.invariant.2) in
-    (found.0, spans bytes c.args.place c.loop-terms.end found.0 (c.loop-terms.invariant.1 zero) found.1)
+    let place = c.args.place in
+    let items = YieldsList-from_skip place (YieldsList-from_enumerate (YieldsList-from_slice bytes cc) cc) cc in
+    let past =
+    numbered_end bytes place (length c.loop-end.yielded)
+    (YieldsList-end items c.loop-end.yielded _ c.loop-end.yielded_by _ _ c.in-None.is c.next.ensures.steps).1 in
+    stop_end 1 (drop place bytes) bytes c.loop-end.terms _ c.loop-end.invariant.0 past c.loop-end.invariant.2 rest (one t _ rest e)

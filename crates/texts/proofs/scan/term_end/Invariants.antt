@@ -1,11 +1,9 @@
-use Rattle.std.proofs.Common.{◌≡◌, ◌+◌, ◌-◌, ◌≤◌, length, drop}
+use Rattle.std.proofs.Common.{◌+◌, ◌<◌, ◌≤◌, length, drop}
 use Rattle.texts.proofs.Rows.{Alike}
 use Rattle.texts.proofs.scan.term_end.Given as goal
 
-abbrev pub invariant-loop-terms : goal.invariant-loop-terms
-invariant-loop-terms l =
-    (l.terms ≤ l.end + 1) × (l.terms ≡ 0 → l.end ≤ length l.bytes)
-    × Alike 1 (drop l.place l.bytes) l.terms (drop l.end l.bytes)
-
-abbrev pub decreases-loop-terms : goal.decreases-loop-terms
-decreases-loop-terms l = length l.bytes - l.end
+-- all the bytes from the place up to here were read, and these terms are still to come
+abbrev pub invariant-loop-end : goal.invariant-loop-end
+invariant-loop-end l =
+    let at = l.place + length l.yielded in
+    (0 < l.terms) × (l.terms ≤ at + 1) × Alike 1 (drop l.place l.bytes) l.terms (drop at l.bytes)
