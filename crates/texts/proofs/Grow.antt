@@ -13,16 +13,13 @@ module _ (x : Inside) (f : Filled x) (more ys : List ℕ) (e : ys ≡ more) (fit
   abbrev pub grown : Inside
   grown = record { bytes = put_mid x.len (x.len + length more - x.len) x.bytes ys; len = x.len + length more }
 
-  pub grown_used : used grown ≡ used x ++ more
+  grown_used : used grown ≡ used x ++ more
   grown_used =
       take-put_mid x.len (x.len + length more - x.len) x.bytes ys (x.len + length more) (omega (arith, ap length e)) (omega (arith, f.sized, f.short))
       ∙ ap (λ (z : List ℕ). used x ++ z) e
 
   front : length (used grown) ≡ x.len + length more
   front = ap length grown_used ∙ length-append (used x) more ∙ ap (λ (n : ℕ). n + length more) (length-used x f)
-
-  pub grown_short : length (used grown) ≤ 511
-  grown_short = omega (arith, front)
 
   pub grown_filled : Filled grown
   grown_filled =

@@ -80,7 +80,7 @@ module _ (n : ℕ) (bs : List ℕ) where
 
   pub whole_found : (r : Option ℕ) → Found r → r ≡ Some (length bs) → Below n bs → Whole n bs
   whole_found (Some end) f e b = let z : end ≡ length bs = cc in spans_whole n bs f.0 end f.1 z b
-  whole_found None f e b = let z : ◌≡◌ {A = ℕ} 0 1 = cc in absurd (omega arith)
+  whole_found None f e b = absurd (cc)
 
   pub whole_met : (r : Option ℕ) → Found r → Whole n bs → option_eq eqb r (Some (length bs)) ≡ true
   whole_met (Some end) f w = eq-eqb end (length bs) (whole_end n bs f.0 end f.1 w)
