@@ -1,6 +1,5 @@
 pub mod Rows
 pub mod Letters
-pub mod Numbered
 pub mod Readings
 pub mod Reversed
 pub mod Evaluations

@@ -11,6 +11,7 @@ pub struct Dating<'a, D> {
     ghost whole: { length dates.now ≡ 24 },
 }
 
+// Written out, since a derive cannot copy a ghost field over a type parameter.
 impl<'a, D> Clone for Dating<'a, D> {
     ghost is_clone = { λ old new. new ≡ old };
 

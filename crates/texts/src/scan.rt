@@ -20,18 +20,26 @@ fn still_to_come(token: Token<u8>, terms: usize) -> Option<usize>
     }
 }
 
+// How many bytes the term at the front has, or `None` where no term stands there.
+fn front_length(bytes: &[u8]) -> Option<usize>
+    ensures { MatchOption result ((t : Term ℕ) (rest : List ℕ) → bytes.now ≢ text_of t ++ rest) (λ length. (t : Term ℕ) × Spans bytes.now 0 t length) }
+{
+    let mut terms = 1;
+    for (before, byte) in bytes.iter().enumerate() {
+        terms = still_to_come(Token::from(*byte), terms)?;
+        if terms == 0 {
+            return Some(before + 1);
+        }
+    }
+    None
+}
+
 // Where the term at `place` ends, or `None` where no term stands there.
 pub fn term_end(bytes: &[u8], place: usize) -> Option<usize>
     ensures { MatchOption result ((t : Term ℕ) (rest : List ℕ) → drop place bytes.now ≢ text_of t ++ rest) (λ end. (t : Term ℕ) × Spans bytes.now place t end) }
 {
-    let mut terms = 1;
-    for (end, byte) in bytes.iter().enumerate().skip(place) {
-        terms = still_to_come(Token::from(*byte), terms)?;
-        if terms == 0 {
-            return Some(end + 1);
-        }
-    }
-    None
+    let length = front_length(bytes.get(place..)?)?;
+    Some(place + length)
 }
 
 // Whether every letter is one of the first `events`.
