@@ -2,7 +2,10 @@
 ghost use Rattle.std.specs.Prelude.{◌≡◌};
 ghost use Rattle.trees.specs.Refusals.{tree_code};
 
-#[derive(Clone, Copy)]
+use std::error::Error;
+use std::fmt;
+
+#[derive(Clone, Copy, Debug, PartialEq, Eq, Hash)]
 pub enum TreeRefusal {
     // The bytes end too soon or go on, or a record's map or kind is wrong.
     Form,
@@ -33,3 +36,19 @@ impl TreeRefusal {
         }
     }
 }
+
+impl fmt::Display for TreeRefusal {
+    fn fmt<W: fmt::Write>(&self, f: &mut fmt::Formatter<W>) -> fmt::Result {
+        f.write_str(match self {
+            TreeRefusal::Form =>
+                "it is too short, has bytes left over, or a record's map or kind is wrong",
+            TreeRefusal::Counts => "it has not 1 to 24 events and 1 to 32 records",
+            TreeRefusal::Input => "an input is no event of the tree and no earlier gate",
+            TreeRefusal::Dependent => "a dependent is no event, its own trigger, or read already",
+            TreeRefusal::TooLong => "a record makes a text above 511 bytes",
+            TreeRefusal::NoSource => "the last record is an FDEP",
+        })
+    }
+}
+
+impl Error for TreeRefusal {}
