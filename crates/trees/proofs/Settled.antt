@@ -13,7 +13,7 @@ use Rattle.trees.specs.Records.{first, second}
 use Rattle.trees.specs.Triggers.{read, misplaced, triggered, with_trigger}
 use Rattle.trees.specs.Gates.{known, term_at, fault, new_term, gate_term}
 use Rattle.trees.specs.Means.{GatesJoin}
-use Rattle.trees.proofs.Progress.{past}
+use Rattle.trees.proofs.Slots.{past}
 
 -- what a record without a fault has
 pub record Sound (E : ℕ) (rs : List Record) (r : Record) : Type 0 where

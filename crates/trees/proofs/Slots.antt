@@ -1,37 +1,44 @@
--- The texts and marks of the inputs, one after another.
+-- The inputs at their places.
 -- Assumes nothing.
-use Rattle.std.proofs.Common.{◌≡◌, ℕ, ◌+◌, ◌<◌, Bool, true, false, ltb, List, length, get_or, set, replicate, Some, None, Option, sym, refl, ap, ◌∙◌, subst, ⊎_elim, arith}
-use Rattle.std.proofs.lemmas.List.{get_or-replicate, get_or_past, get_or-set_same, get_or-set_other}
-use Rattle.std.proofs.lemmas.Bool.{cases_lt, cases_eq, le-ltb, lt-ltb}
+use Rattle.std.proofs.Common.{◌≡◌, ℕ, zero, suc, ◌+◌, ◌<◌, ◌≤◌, Bool, true, false, cond, ◌||◌, ltb, List, [], ◌∷◌, length, get_or, Some, None, Option, sym, refl, ap, ◌∙◌, subst, ⊎_elim, arith}
+use Rattle.std.proofs.lemmas.Bool.{cases_eq, le-ltb, ne_eqb, or_from}
+use Rattle.std.specs.Array.{IsFromFnResult, IsFromFnResultFrom}
+use Rattle.std.specs.Fn.{Called}
+use denote.Param.Members.{Mut}
 use Rattle.algebra.specs.Terms.{Term, leaf}
 use Rattle.algebra.specs.Texts.{text_of}
 use Rattle.texts.specs.Held.{used}
 use Rattle.texts.specs.declared.text.Text.{Text}
 use Rattle.texts.proofs.Grow.{used_short}
-use Rattle.trees.specs.Held.{Slot}
+use Rattle.trees.specs.declared.inputs.Input.{Input}
+use Rattle.trees.specs.declared.inputs.Inputs.{Inputs}
+use Rattle.trees.specs.declared.record.Record.{Record}
+use Rattle.trees.specs.declared.record.Record.TheVariants.{Joins, Triggers}
+use Rattle.trees.specs.Gates.{known, term_at}
+use Rattle.trees.specs.Held.{Holds, Slot, input_at, text_in, read_in}
+use Rattle.trees.specs.Triggers.{read}
 
--- a list of one value has it everywhere, as the default too
-pub all_none : {X : Type 0} (n : ℕ) (x : X) (i : ℕ) → get_or (replicate n x) i x ≡ x
-all_none n x i = ⊎_elim (λ l. get_or-replicate n i x x l) (λ g. get_or_past (replicate n x) i x (simp lib.ListN.length-replicate g)) (cases_lt i n)
+-- what each call of a closure gives, where no call changes it, each element has
+module _ {F B : Type 0} (g : Mut F (ℕ × Unit {0}) B) (f : F) (P : ℕ → B → Type 0) (step : (i : ℕ) (y : B) (q : F) → Called g f (i, tt) y q → P i y × (q ≡ f)) where
+  each_from : (ys : List B) (i n : ℕ) → IsFromFnResultFrom g f ys i n → (k : ℕ) (d : B) → i ≤ k → k < i + n → P k (get_or ys k d)
+  each_from ys i zero h k d a b = absurd (omega arith)
+  each_from ys i (suc n) h k d a b =
+      let now = step i h.1 h.0 h.3 in
+      let rest = subst (λ q. IsFromFnResultFrom g q ys (i + 1) n) now.1 h.4 in
+      ⊎_elim
+      (λ e. subst (λ j. P j (get_or ys j d)) (sym e) (subst (P i) (sym (h.2.1 d)) now.0))
+      (λ other. each_from ys (i + 1) n rest k d (omega (arith, other)) (omega arith))
+      (cases_eq k i)
 
-pub slots_none : (i : ℕ) → Slot (ltb i 0) (get_or (replicate 96 None) i None) (leaf i)
-slots_none i =
-    let P : Bool → Type 0 = λ b. Slot b (get_or (replicate 96 None) i None) (leaf i) in
-    let Q : Option Text → Type 0 = λ o. Slot false o (leaf i) in
-    subst P (sym (le-ltb i 0 (omega arith))) (subst Q (sym (all_none 96 None i)) tt)
+  pub each_made : (ys : List B) (n : ℕ) → IsFromFnResult g f ys n → (k : ℕ) (d : B) → k < n → P k (get_or ys k d)
+  each_made ys n h k d l = each_from ys 0 n h.each k d (omega arith) (omega arith)
 
-pub slots_letter : (ts : List (Option Text)) (e at : ℕ) (x : Text) → e < length ts → at ≡ e → used x ≡ text_of (leaf e) → ((i : ℕ) → Slot (ltb i e) (get_or ts i None) (leaf i)) → (i : ℕ) → Slot (ltb i (e + 1)) (get_or (set ts at (Some x)) i None) (leaf i)
-slots_letter ts e at x room same u old i =
-    let P : Option Text → Bool → Type 0 = λ o b. Slot b o (leaf i) in
-    let at_here : i ≡ e → Slot (ltb i (e + 1)) (get_or (set ts at (Some x)) i None) (leaf i) = λ here.
-    let a : get_or (set ts at (Some x)) i None ≡ Some x = ap (λ (k : ℕ). get_or (set ts at (Some x)) k None) (here ∙ sym same) ∙ get_or-set_same ts at (Some x) None (omega arith) in
-    let b : ltb i (e + 1) ≡ true = lt-ltb i (e + 1) (omega arith) in
-    subst (λ o. P o (ltb i (e + 1))) (sym a) (subst (λ b. P (Some x) b) (sym b) (u ∙ ap (λ (k : ℕ). text_of (leaf k)) (sym here))) in
-    let elsewhere : (i ≡ e → ⊥) → Slot (ltb i (e + 1)) (get_or (set ts at (Some x)) i None) (leaf i) = λ there.
-    let a : get_or (set ts at (Some x)) i None ≡ get_or ts i None = get_or-set_other ts at i (Some x) None (λ z. there (z ∙ same)) in
-    let b : ltb i (e + 1) ≡ ltb i e = ⊎_elim (λ l. lt-ltb i (e + 1) (omega arith) ∙ sym (lt-ltb i e l)) (λ g. le-ltb i (e + 1) (omega arith) ∙ sym (le-ltb i e g)) (cases_lt i e) in
-    subst (λ o. P o (ltb i (e + 1))) (sym a) (subst (λ z. P (get_or ts i None) z) (sym b) (old i)) in
-    ⊎_elim at_here elsewhere (cases_eq i e)
+-- an event's letter at each place of an event, and nothing elsewhere
+abbrev pub AtFirst : ℕ → ℕ → Option Input → Type 0
+AtFirst E i o = Slot (ltb i E) (text_in o) (leaf i) × (read_in o ≡ false)
+
+pub at_first_past : (E i : ℕ) → E ≤ i → AtFirst E i None
+at_first_past E i h = (subst (λ b. Slot b None (leaf i)) (sym (le-ltb i E h)) tt, refl)
 
 -- an input with a text is known
 known_some : (k : Bool) (x : Text) (t : (Term ℕ)) → Slot k (Some x) t → k ≡ true
@@ -58,3 +65,38 @@ unknown_none false t s = refl
 
 pub is_unknown : (k : Bool) (t : (Term ℕ)) (o : Option Text) → None ≡ o → Slot k o t → k ≡ false
 is_unknown k t o e s = unknown_none k t (subst (λ z. Slot k z t) (sym e) s)
+
+-- no gate stands past the last record
+pub past : (E : ℕ) (rs : List Record) (i : ℕ) → E ≤ 64 → 64 + length rs ≤ i → known E rs i ≡ false
+past E [] i e h = le-ltb i E (omega arith)
+past E (Joins g a b ∷ rs) i e h = or_from _ _ (ne_eqb i (64 + length rs) (λ z. omega arith)) (past E rs i e (omega arith))
+past E (Triggers t d ∷ rs) i e h = past E rs i e (omega arith)
+
+-- an input that is not known was not read
+unread_unknown : (k : Bool) (o : Option Input) (t : Term ℕ) → k ≡ false → Slot k (text_in o) t → read_in o ≡ false
+unread_unknown k None t e s = refl
+unread_unknown k (Some x) t e s = absurd (subst (λ b. Slot b (Some x.text) t) e s)
+
+-- no record has read the place of the next gate
+pub unread_next : (E : ℕ) (rs : List Record) (s : Inputs) (i : ℕ) → Holds E rs s → 64 + length rs ≤ i → read rs i ≡ false
+unread_next E rs s i h l =
+    sym (h.reads i) ∙ unread_unknown (known E rs i) (input_at s i) (term_at rs i) (past E rs i (omega (arith, h.events)) l) (h.texts i)
+
+-- a text is put at a place that is new, or at one that is known
+pub slot_added : (here k : Bool) (o : Option Text) (x : Text) (t u : Term ℕ) → used x ≡ text_of t → Slot k o u → Slot (here || k) (cond here (Some x) o) (cond here t u)
+slot_added true k o x t u w s = w
+slot_added false k o x t u w s = s
+
+pub slot_changed : (here k : Bool) (o : Option Text) (x : Text) (t u : Term ℕ) → (here ≡ true → k ≡ true) → used x ≡ text_of t → Slot k o u → Slot k (cond here (Some x) o) (cond here t u)
+slot_changed true k o x t u there w s = subst (λ b. Slot b (Some x) t) (sym (there refl)) w
+slot_changed false k o x t u there w s = s
+
+-- what is put is unread, and the place was unread before
+pub still_unread : (here old : Bool) → (here ≡ true → old ≡ false) → cond here false old ≡ old
+still_unread true old h = sym (h refl)
+still_unread false old h = refl
+
+pub swapped : (a b c : Bool) → (b || (a || c)) ≡ (a || (b || c))
+swapped true true c = refl
+swapped true false c = refl
+swapped false b c = refl

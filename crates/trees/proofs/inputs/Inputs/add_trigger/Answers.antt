@@ -1,17 +1,38 @@
-use Rattle.std.proofs.Common.{◌≡◌, true, false, ltb, length, ◌∙◌, rules}
+use Rattle.std.proofs.Common.{◌≡◌, ℕ, true, false, eqb, ltb, length, Some, refl, ap, ◌∙◌, rules}
+use Rattle.std.proofs.lemmas.Bool.{eqb-true, or_parts}
 use Rattle.algebra.specs.Texts.{text_of}
 use Rattle.trees.specs.Gates.{known, term_at}
-use Rattle.trees.specs.Triggers.{with_trigger}
-use Rattle.trees.proofs.Slots.{is_known, is_used, short}
+use Rattle.trees.specs.Triggers.{misplaced, read, with_trigger}
+use Rattle.trees.specs.declared.record.Record.TheVariants.{Triggers}
+use Rattle.trees.specs.Held.{input_at, read_in, text_in}
+use Rattle.trees.proofs.Slots.{is_known, is_used, short, slot_changed, still_unread}
 use Rattle.trees.proofs.inputs.Inputs.add_trigger.Goals as goal
 
 pub returns : goal.returns
 returns c E rs h =
+    let s = c.args.self.now in
     let t = c.args.trigger in
     let d = c.args.dependent in
-    let there : known E rs d ≡ true = is_known (known E rs d) c.in-Some-text.b.now (term_at rs d) _ c.in-Some-text.ensures.is (h.texts d) in
+    let x = c.in_ok-text.text in
+    let one : Some c.in_ok-a.a.now ≡ input_at s t = search rules in
+    let two : Some c.in_ok-b.b.now ≡ input_at s d = search rules in
+    let one_text = ap text_in one in
+    let two_text = ap text_in two in
+    let one_known : known E rs t ≡ true = is_known (known E rs t) _ (term_at rs t) _ one_text (h.texts t) in
+    let two_known : known E rs d ≡ true = is_known (known E rs d) _ (term_at rs d) _ two_text (h.texts d) in
+    let unread : c.in_ok-b.b.now.is_read ≡ read rs d = ap read_in two ∙ h.reads d in
+    let placed : misplaced rs (Triggers t d) ≡ false = search rules in
     let made = c.in_ok-text.ensures (term_at rs d) (term_at rs t)
-    (c.as_bytes.ensures ∙ is_used (known E rs d) _ (term_at rs d) _ c.in-Some-text.ensures.is (h.texts d))
-    (c.as_bytes-2.ensures ∙ is_used (known E rs t) _ (term_at rs t) _ c.in-Some.ensures.is (h.texts t)) in
-    let fits : ltb 511 (length (text_of (with_trigger (term_at rs d) (term_at rs t)))) ≡ false = short c.in_ok-text.text _ made in
-    (search rules, record { slots = search rules; marks = search rules; texts = λ i. search rules; reads = λ i. search rules })
+    (c.as_bytes.ensures ∙ is_used (known E rs d) _ (term_at rs d) _ two_text (h.texts d))
+    (c.as_bytes-2.ensures ∙ is_used (known E rs t) _ (term_at rs t) _ one_text (h.texts t)) in
+    let fits : ltb 511 (length (text_of (with_trigger (term_at rs d) (term_at rs t)))) ≡ false = short x _ made in
+    let texts = λ (i : ℕ). c.mark.ensures.texts i ∙ c.put.ensures.texts i in
+    let unread_at = λ (i : ℕ) (e : eqb i d ≡ true). ap (read rs) (eqb-true i d e) ∙ (or_parts _ _ (or_parts _ _ placed).1).1 in
+    let known_at = λ (i : ℕ) (e : eqb i d ≡ true). ap (known E rs) (eqb-true i d e) ∙ two_known in (
+      search rules,
+      record {
+        events = h.events;
+        texts = λ i. rw (texts i, c.from.ensures) (slot_changed (eqb i d) (known E rs i) (text_in (input_at s i)) x _ (term_at rs i) (known_at i) made (h.texts i));
+        reads = λ i. rw (c.mark.ensures.reads i, c.put.ensures.reads i, c.from.ensures, h.reads i, still_unread (eqb i d) (read rs i) (unread_at i)) refl;
+      },
+    )

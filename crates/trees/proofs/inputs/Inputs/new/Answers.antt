@@ -1,24 +1,15 @@
-use Rattle.std.proofs.Common.{◌≡◌, ℕ, false, ltb, get_or, None, refl, ◌∙◌, subst, arith, length-set}
-use Rattle.algebra.specs.Terms.{leaf}
-use Rattle.trees.specs.Held.{Slot}
-use Rattle.trees.proofs.Slots.{slots_none, slots_letter, all_none}
+use Rattle.std.proofs.Common.{ℕ, None, get_or, sym, subst, ⊎_elim, arith, rules}
+use Rattle.std.proofs.lemmas.Bool.{cases_lt}
+use Rattle.std.proofs.lemmas.List.{get_or_past}
+use Rattle.trees.proofs.Slots.{AtFirst, each_made, at_first_past}
 use Rattle.trees.proofs.inputs.Inputs.new.Goals as goal
-
-pub loop-e-init : goal.loop-e-init
-loop-e-init c = (refl, slots_none)
-
-pub loop-e-preserved : goal.loop-e-preserved
-loop-e-preserved c =
-    let inv = c.loop-e.invariant in
-    (length-set _ _ _ ∙ inv.0, slots_letter c.loop-e.texts c.loop-e.e c.from.result c.letter_text.result (omega (arith, inv.0)) c.from.ensures c.letter_text.ensures inv.1)
 
 pub returns : goal.returns
 returns c =
-    let inv = c.loop-e.invariant in
-    let end : c.loop-e.e ≡ c.args.events = omega arith in
-    record {
-      slots = inv.0;
-      marks = refl;
-      texts = subst (λ n. (i : ℕ) → Slot (ltb i n) (get_or c.loop-e.texts i None) (leaf i)) end inv.1;
-      reads = all_none 96 false;
-    }
+    let made = c.from_fn.ensures.items in
+    let all : (i : ℕ) → AtFirst c.args.counts.events i (get_or c.from_fn.result i None) = λ i.
+    ⊎_elim
+    (λ h. each_made _ _ (AtFirst c.args.counts.events) (λ j y q k. search rules) c.from_fn.result 96 made i None h)
+    (λ h. subst (AtFirst c.args.counts.events i) (sym (get_or_past c.from_fn.result i None (omega (arith, made.long)))) (at_first_past c.args.counts.events i (omega arith)))
+    (cases_lt i 96) in
+    record { events = c.args.counts.in_range.1; texts = λ i. (all i).0; reads = λ i. (all i).1 }
