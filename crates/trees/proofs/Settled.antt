@@ -2,6 +2,7 @@
 -- Assumes nothing.
 use Rattle.std.proofs.Common.{◌≡◌, ℕ, ◌+◌, ◌<◌, ◌≤◌, Bool, true, false, cond, ◌&&◌, eqb, ltb, ◌⊎◌, List, [], ◌∷◌, length, Some, None, Option, sym, refl, ap, ◌∙◌, inl, inr, ⊎_elim, arith}
 use Rattle.std.proofs.lemmas.Bool.{ne_eqb, eq-eqb, or_left, or_right, or_parts, both_ways, leb-false, cond-true, cond-false, cases_lt, cases_Bool, eqb-true}
+use Rattle.std.proofs.lemmas.Option.{none-some}
 use Rattle.algebra.specs.Terms.{Term}
 use Rattle.algebra.specs.Texts.{text_of}
 use Rattle.trees.specs.declared.record.Gate.{Gate}
@@ -21,14 +22,11 @@ pub record Sound (E : ℕ) (rs : List Record) (r : Record) : Type 0 where
   pub two : known E rs (second r) ≡ true
   pub placed : misplaced rs r ≡ false
 
-some_none : (f : TreeRefusal) → Some f ≡ None → ⊥
-some_none f e = let z : ◌≡◌ {A = ℕ} 0 1 = cc in omega arith
-
 sound_from : (E : ℕ) (rs : List Record) (r : Record) (k l m n : Bool) → known E rs (first r) ≡ k → known E rs (second r) ≡ l → misplaced rs r ≡ m → cond {A = Option TreeRefusal} (k && l) (cond m (Some Dependent) (cond n (Some TooLong) None)) (Some Input) ≡ None → Sound E rs r
-sound_from E rs r true true true n p q s h = absurd (some_none _ h)
+sound_from E rs r true true true n p q s h = absurd (none-some _ (sym h))
 sound_from E rs r true true false n p q s h = record { one = p; two = q; placed = s }
-sound_from E rs r true false m n p q s h = absurd (some_none _ h)
-sound_from E rs r false l m n p q s h = absurd (some_none _ h)
+sound_from E rs r true false m n p q s h = absurd (none-some _ (sym h))
+sound_from E rs r false l m n p q s h = absurd (none-some _ (sym h))
 
 pub sound : (E : ℕ) (rs : List Record) (r : Record) → fault E rs r ≡ None → Sound E rs r
 sound E rs r h = sound_from E rs r (known E rs (first r)) (known E rs (second r)) (misplaced rs r) (ltb 511 (length (text_of (new_term rs r)))) refl refl refl h

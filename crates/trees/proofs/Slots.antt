@@ -40,31 +40,25 @@ AtFirst E i o = Slot (ltb i E) (text_in o) (leaf i) × (read_in o ≡ false)
 pub at_first_past : (E i : ℕ) → E ≤ i → AtFirst E i None
 at_first_past E i h = (subst (λ b. Slot b None (leaf i)) (sym (le-ltb i E h)) tt, refl)
 
--- an input with a text is known
-known_some : (k : Bool) (x : Text) (t : (Term ℕ)) → Slot k (Some x) t → k ≡ true
-known_some true x t s = refl
-known_some false x t s = absurd s
+some_slot : (k : Bool) (x : Text) (t : Term ℕ) → Slot k (Some x) t → (k ≡ true) × (used x ≡ text_of t)
+some_slot true x t s = (refl, s)
+some_slot false x t s = absurd s
 
-pub is_known : (k : Bool) (x : Text) (t : (Term ℕ)) (o : Option Text) → Some x ≡ o → Slot k o t → k ≡ true
-is_known k x t o e s = known_some k x t (subst (λ z. Slot k z t) (sym e) s)
+none_slot : (k : Bool) (t : Term ℕ) → Slot k None t → k ≡ false
+none_slot true t s = absurd s
+none_slot false t s = refl
 
-used_some : (k : Bool) (x : Text) (t : (Term ℕ)) → Slot k (Some x) t → used x ≡ text_of t
-used_some true x t s = s
-used_some false x t s = absurd s
+module _ {E : ℕ} {rs : List Record} {s : Inputs} (h : Holds E rs s) (i : ℕ) where
+  -- an input with a text is known, and the text is its term's
+  pub held : (x : Text) → Some x ≡ text_in (input_at s i) → (known E rs i ≡ true) × (used x ≡ text_of (term_at rs i))
+  held x e = some_slot (known E rs i) x (term_at rs i) (subst (λ o. Slot (known E rs i) o (term_at rs i)) (sym e) (h.texts i))
 
-pub is_used : (k : Bool) (x : Text) (t : (Term ℕ)) (o : Option Text) → Some x ≡ o → Slot k o t → used x ≡ text_of t
-is_used k x t o e s = used_some k x t (subst (λ z. Slot k z t) (sym e) s)
+  pub unheld : None ≡ text_in (input_at s i) → known E rs i ≡ false
+  unheld e = none_slot (known E rs i) (term_at rs i) (subst (λ o. Slot (known E rs i) o (term_at rs i)) (sym e) (h.texts i))
 
 -- what a text has is not too long
 pub short : (x : Text) (w : List ℕ) → used x ≡ w → ltb 511 (length w) ≡ false
 short x w u = le-ltb 511 (length w) (omega (arith, ap length u, used_short x))
-
-unknown_none : (k : Bool) (t : (Term ℕ)) → Slot k None t → k ≡ false
-unknown_none true t s = absurd s
-unknown_none false t s = refl
-
-pub is_unknown : (k : Bool) (t : (Term ℕ)) (o : Option Text) → None ≡ o → Slot k o t → k ≡ false
-is_unknown k t o e s = unknown_none k t (subst (λ z. Slot k z t) (sym e) s)
 
 -- no gate stands past the last record
 pub past : (E : ℕ) (rs : List Record) (i : ℕ) → E ≤ 64 → 64 + length rs ≤ i → known E rs i ≡ false

@@ -1,10 +1,10 @@
-use Rattle.std.proofs.Common.{◌≡◌, ℕ, ◌+◌, true, false, eqb, ltb, length, Some, ◌∙◌, arith, rules}
+use Rattle.std.proofs.Common.{◌≡◌, ℕ, ◌+◌, true, false, eqb, ltb, length, ◌∙◌, arith, rules}
 use Rattle.std.proofs.lemmas.Bool.{eqb-true}
 use Rattle.algebra.specs.Texts.{text_of}
 use Rattle.trees.specs.Gates.{gate_term, known, term_at}
-use Rattle.trees.specs.Triggers.{read}
 use Rattle.trees.specs.Held.{input_at, text_in}
-use Rattle.trees.proofs.Slots.{is_known, is_used, short, slot_added, still_unread, swapped, unread_next}
+use Rattle.trees.specs.Triggers.{read}
+use Rattle.trees.proofs.Slots.{held, short, slot_added, still_unread, swapped, unread_next}
 use Rattle.trees.proofs.inputs.Inputs.add_gate.Goals as goal
 
 pub returns : goal.returns
@@ -14,20 +14,15 @@ returns c E rs h n =
     let b = c.args.second in
     let x = c.in_ok-text.text in
     let at = 64 + c.args.k in
-    let one : Some c.in_ok-a.a.now ≡ text_in (input_at s a) = search rules in
-    let two : Some c.in_ok-b.b.now ≡ text_in (input_at s b) = search rules in
-    let one_known : known E rs a ≡ true = is_known (known E rs a) _ (term_at rs a) _ one (h.texts a) in
-    let two_known : known E rs b ≡ true = is_known (known E rs b) _ (term_at rs b) _ two (h.texts b) in
-    let made = c.in_ok-text.ensures (term_at rs a) (term_at rs b)
-    (c.as_bytes.ensures ∙ is_used (known E rs a) _ (term_at rs a) _ one (h.texts a))
-    (c.as_bytes-2.ensures ∙ is_used (known E rs b) _ (term_at rs b) _ two (h.texts b)) in
+    let one = held h a c.in_ok-a.a.now (search rules) in
+    let two = held h b c.in_ok-b.b.now (search rules) in
+    let made = c.in_ok-text.ensures (term_at rs a) (term_at rs b) (c.as_bytes.ensures ∙ one.1) (c.as_bytes-2.ensures ∙ two.1) in
     let fits : ltb 511 (length (text_of (gate_term c.args.gate (term_at rs a) (term_at rs b)))) ≡ false = short x _ made in
-    let texts = λ (i : ℕ). c.mark-2.ensures.texts i ∙ c.mark.ensures.texts i ∙ c.put.ensures.texts i in
-    let new = λ (i : ℕ) (e : eqb i at ≡ true). unread_next E rs s i h (omega (arith, n, eqb-true i at e)) in (
+    let new : (i : ℕ) → eqb i at ≡ true → read rs i ≡ false = λ i e. unread_next E rs s i h (omega (arith, n, eqb-true i at e)) in (
       search rules,
       record {
         events = h.events;
-        texts = λ i. rw (texts i, n) (slot_added (eqb i at) (known E rs i) (text_in (input_at s i)) x _ (term_at rs i) made (h.texts i));
+        texts = λ i. rw (c.mark-2.ensures.texts i, c.mark.ensures.texts i, c.put.ensures.texts i, n) (slot_added (eqb i at) (known E rs i) (text_in (input_at s i)) x _ (term_at rs i) made (h.texts i));
         reads = λ i. rw (c.mark-2.ensures.reads i, c.mark.ensures.reads i, c.put.ensures.reads i, h.reads i, still_unread (eqb i at) (read rs i) (new i)) (swapped (eqb i a) (eqb i b) (read rs i));
       },
     )
