@@ -1,11 +1,8 @@
 -- The inputs at their places.
 -- Assumes nothing.
-use Rattle.std.proofs.Common.{◌≡◌, ℕ, zero, suc, ◌+◌, ◌<◌, ◌≤◌, Bool, true, false, cond, ◌||◌, ltb, List, [], ◌∷◌, length, get_or, Some, None, Option, sym, refl, ap, ◌∙◌, subst, ⊎_elim, arith}
-use Rattle.std.proofs.lemmas.Bool.{cases_eq, le-ltb, ne_eqb, or_from}
-use Rattle.std.specs.Array.{IsFromFnResult, IsFromFnResultFrom}
-use Rattle.std.specs.Fn.{Called}
-use denote.Param.Members.{Mut}
-use Rattle.algebra.specs.Terms.{Term, leaf}
+use Rattle.std.proofs.Common.{◌≡◌, ℕ, zero, suc, ◌+◌, ◌≤◌, Bool, true, false, cond, ◌||◌, ltb, List, [], ◌∷◌, length, get_or, replicate, Some, None, Option, sym, refl, ap, ◌∙◌, subst, arith}
+use Rattle.std.proofs.lemmas.Bool.{le-ltb, ne_eqb, or_from}
+use Rattle.algebra.specs.Terms.{Term}
 use Rattle.algebra.specs.Texts.{text_of}
 use Rattle.texts.specs.Held.{used}
 use Rattle.texts.specs.declared.text.Text.{Text}
@@ -17,28 +14,6 @@ use Rattle.trees.specs.declared.record.Record.TheVariants.{Joins, Triggers}
 use Rattle.trees.specs.Gates.{known, term_at}
 use Rattle.trees.specs.Held.{Holds, Slot, input_at, text_in, read_in}
 use Rattle.trees.specs.Triggers.{read}
-
--- what each call of a closure gives, where no call changes it, each element has
-module _ {F B : Type 0} (g : Mut F (ℕ × Unit {0}) B) (f : F) (P : ℕ → B → Type 0) (step : (i : ℕ) (y : B) (q : F) → Called g f (i, tt) y q → P i y × (q ≡ f)) where
-  each_from : (ys : List B) (i n : ℕ) → IsFromFnResultFrom g f ys i n → (k : ℕ) (d : B) → i ≤ k → k < i + n → P k (get_or ys k d)
-  each_from ys i zero h k d a b = absurd (omega arith)
-  each_from ys i (suc n) h k d a b =
-      let now = step i h.1 h.0 h.3 in
-      let rest = subst (λ q. IsFromFnResultFrom g q ys (i + 1) n) now.1 h.4 in
-      ⊎_elim
-      (λ e. subst (λ j. P j (get_or ys j d)) (sym e) (subst (P i) (sym (h.2.1 d)) now.0))
-      (λ other. each_from ys (i + 1) n rest k d (omega (arith, other)) (omega arith))
-      (cases_eq k i)
-
-  pub each_made : (ys : List B) (n : ℕ) → IsFromFnResult g f ys n → (k : ℕ) (d : B) → k < n → P k (get_or ys k d)
-  each_made ys n h k d l = each_from ys 0 n h.each k d (omega arith) (omega arith)
-
--- an event's letter at each place of an event, and nothing elsewhere
-abbrev pub AtFirst : ℕ → ℕ → Option Input → Type 0
-AtFirst E i o = Slot (ltb i E) (text_in o) (leaf i) × (read_in o ≡ false)
-
-pub at_first_past : (E i : ℕ) → E ≤ i → AtFirst E i None
-at_first_past E i h = (subst (λ b. Slot b None (leaf i)) (sym (le-ltb i E h)) tt, refl)
 
 some_slot : (k : Bool) (x : Text) (t : Term ℕ) → Slot k (Some x) t → (k ≡ true) × (used x ≡ text_of t)
 some_slot true x t s = (refl, s)
@@ -94,3 +69,18 @@ pub swapped : (a b c : Bool) → (b || (a || c)) ≡ (a || (b || c))
 swapped true true c = refl
 swapped true false c = refl
 swapped false b c = refl
+
+all_none : {X : Type 0} (n i : ℕ) (x : X) → get_or (replicate n x) i x ≡ x
+all_none zero i x = refl
+all_none (suc n) zero x = refl
+all_none (suc n) (suc i) x = all_none n i x
+
+-- the inputs of a tree with no event
+pub holds_none : Holds 0 [] (record { places = replicate 96 None })
+holds_none =
+    let none : (i : ℕ) → ◌≡◌ {A = Option Input} (get_or (replicate 96 None) i None) None = λ i. all_none 96 i None in
+    record {
+      events = omega arith;
+      texts = λ i. rw (none i, le-ltb i 0 (omega arith)) tt;
+      reads = λ i. ap read_in (none i);
+    }

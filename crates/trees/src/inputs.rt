@@ -1,9 +1,9 @@
 // The inputs of a tree: their texts, as its records give them, and which of them a record has read.
-ghost use Rattle.std.specs.Prelude.{◌≡◌, ℕ, ◌<◌, ◌≤◌, false, cond, ◌||◌, Some, List, [], length, option_map, IsSome, ◌==◌, nat_le, nat_lt, slice_index_or};
+ghost use Rattle.std.specs.Prelude.{◌≡◌, ℕ, ◌<◌, ◌≤◌, false, cond, ◌||◌, Some, List, [], length, option_map, IsSome, ◌==◌, nat_le};
 ghost use Rattle.algebra.specs.Terms.{leaf};
 ghost use Rattle.algebra.specs.Texts.{text_of};
 ghost use Rattle.texts.specs.Held.{used};
-ghost use Rattle.trees.specs.Held.{Holds, After, Slot, input_at, text_in, read_in};
+ghost use Rattle.trees.specs.Held.{Holds, After, input_at, text_in, read_in};
 ghost use Rattle.trees.specs.declared.record.Record.{Record};
 ghost use Rattle.trees.specs.declared.record.Record.TheVariants.{Joins, Triggers};
 
@@ -11,7 +11,6 @@ use crate::counts::Counts;
 use crate::join::{gate_text, triggered_text};
 use crate::record::{Gate, Record};
 use crate::refusal::TreeRefusal;
-use std::array;
 use texts::text::Text;
 
 // An input: its text, and whether a record has read it.
@@ -37,21 +36,6 @@ fn letter_text(event: u8) -> Text
     text
 }
 
-// The input at a place before the first record: an event's letter.
-fn event_at(place: usize, counts: Counts) -> Option<Input>
-    ensures text { Slot (nat_lt place counts.events) (text_in result) (leaf place) }
-    ensures unread { read_in result ≡ false }
-{
-    if place < usize::from(counts.events) {
-        Some(Input {
-            text: letter_text(place as u8),
-            is_read: false,
-        })
-    } else {
-        None
-    }
-}
-
 // No FDEP may have this dependent: it is no event, its own trigger, or was read before.
 fn misplaced(trigger: u8, dependent: u8, was_read: bool) -> bool
     ensures { result ≡ (nat_le 64 dependent || (trigger == dependent || was_read)) }
@@ -64,9 +48,11 @@ impl Inputs {
     pub fn new(counts: Counts) -> Inputs
         ensures { Holds counts.events [] result }
     {
-        Inputs {
-            places: array::from_fn(|place| event_at(place, counts)),
+        let mut inputs = Inputs { places: [None; 96] };
+        for event in 0..counts.events {
+            inputs.put(usize::from(event), letter_text(event));
         }
+        inputs
     }
 
     // The input at a place, where there is one.
