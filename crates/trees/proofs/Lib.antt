@@ -1,6 +1,5 @@
 pub mod Parts
 pub mod Fronts
-pub mod Lengths
 pub mod Slots
 pub mod Progress
 pub mod One

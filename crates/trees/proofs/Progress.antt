@@ -3,7 +3,6 @@
 use Rattle.std.proofs.Common.{◌≡◌, ℕ, ◌+◌, ◌<◌, ◌≤◌, true, ◌⊎◌, List, [], ◌∷◌, length, Some, None, Option, sym, ap, ◌∙◌, subst, inl, inr, arith}
 use Rattle.std.proofs.lemmas.List.{nil_from_length}
 use Rattle.std.proofs.lemmas.Bool.{eq-eqb, or_left, both_ways}
-use Rattle.texts.specs.Held.{used}
 use Rattle.texts.specs.declared.text.Text.{Text}
 use Rattle.trees.specs.declared.record.Record.{Record}
 use Rattle.trees.specs.declared.record.Record.TheVariants.{Joins, Triggers}
@@ -48,7 +47,7 @@ last_there E (Triggers t d ∷ rs) n m l = absurd l
 
 -- the end of a reading
 module _ {E k : ℕ} {bs rest : List ℕ} {s : Inputs} (g : Progress E bs k s rest) (n : ℕ) (last : Option Text) (many : length g.records ≡ n) (is : last ≡ text_in (input_at s (63 + n))) where
-  pub end_granted : (x : Text) → 1 ≤ n → (length rest ≡ 0) × (last ≡ Some x) → Ending E n bs (gives E (used x))
+  pub end_granted : (x : Text) → 1 ≤ n → (length rest ≡ 0) × (last ≡ Some x) → Ending E n bs (gives E x)
   end_granted x h o =
       let there = held g.holds (63 + n) x (sym o.1 ∙ is) in
       let gate = last_known E g.records n g.holds.events many h there.0 in

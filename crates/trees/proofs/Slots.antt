@@ -1,12 +1,10 @@
 -- The inputs at their places.
 -- Assumes nothing.
-use Rattle.std.proofs.Common.{◌≡◌, ℕ, zero, suc, ◌+◌, ◌≤◌, Bool, true, false, cond, ◌||◌, ltb, List, [], ◌∷◌, length, get_or, replicate, Some, None, Option, sym, refl, ap, ◌∙◌, subst, arith}
+use Rattle.std.proofs.Common.{◌≡◌, ℕ, zero, suc, ◌+◌, ◌≤◌, Bool, true, false, cond, ◌||◌, List, [], ◌∷◌, length, get_or, replicate, Some, None, Option, sym, refl, ap, ◌∙◌, subst, arith}
 use Rattle.std.proofs.lemmas.Bool.{le-ltb, ne_eqb, or_from}
 use Rattle.algebra.specs.Terms.{Term}
 use Rattle.algebra.specs.Texts.{text_of}
-use Rattle.texts.specs.Held.{used}
 use Rattle.texts.specs.declared.text.Text.{Text}
-use Rattle.texts.proofs.Grow.{used_short}
 use Rattle.trees.specs.declared.inputs.Input.{Input}
 use Rattle.trees.specs.declared.inputs.Inputs.{Inputs}
 use Rattle.trees.specs.declared.record.Record.{Record}
@@ -15,7 +13,7 @@ use Rattle.trees.specs.Gates.{known, term_at}
 use Rattle.trees.specs.Held.{Holds, Slot, input_at, text_in, read_in}
 use Rattle.trees.specs.Triggers.{read}
 
-some_slot : (k : Bool) (x : Text) (t : Term ℕ) → Slot k (Some x) t → (k ≡ true) × (used x ≡ text_of t)
+some_slot : (k : Bool) (x : Text) (t : Term ℕ) → Slot k (Some x) t → (k ≡ true) × (x ≡ text_of t)
 some_slot true x t s = (refl, s)
 some_slot false x t s = absurd s
 
@@ -25,15 +23,11 @@ none_slot false t s = refl
 
 module _ {E : ℕ} {rs : List Record} {s : Inputs} (h : Holds E rs s) (i : ℕ) where
   -- an input with a text is known, and the text is its term's
-  pub held : (x : Text) → Some x ≡ text_in (input_at s i) → (known E rs i ≡ true) × (used x ≡ text_of (term_at rs i))
+  pub held : (x : Text) → Some x ≡ text_in (input_at s i) → (known E rs i ≡ true) × (x ≡ text_of (term_at rs i))
   held x e = some_slot (known E rs i) x (term_at rs i) (subst (λ o. Slot (known E rs i) o (term_at rs i)) (sym e) (h.texts i))
 
   pub unheld : None ≡ text_in (input_at s i) → known E rs i ≡ false
   unheld e = none_slot (known E rs i) (term_at rs i) (subst (λ o. Slot (known E rs i) o (term_at rs i)) (sym e) (h.texts i))
-
--- what a text has is not too long
-pub short : (x : Text) (w : List ℕ) → used x ≡ w → ltb 511 (length w) ≡ false
-short x w u = le-ltb 511 (length w) (omega (arith, ap length u, used_short x))
 
 -- no gate stands past the last record
 pub past : (E : ℕ) (rs : List Record) (i : ℕ) → E ≤ 64 → 64 + length rs ≤ i → known E rs i ≡ false
@@ -52,11 +46,11 @@ unread_next E rs s i h l =
     sym (h.reads i) ∙ unread_unknown (known E rs i) (input_at s i) (term_at rs i) (past E rs i (omega (arith, h.events)) l) (h.texts i)
 
 -- a text is put at a place that is new, or at one that is known
-pub slot_added : (here k : Bool) (o : Option Text) (x : Text) (t u : Term ℕ) → used x ≡ text_of t → Slot k o u → Slot (here || k) (cond here (Some x) o) (cond here t u)
+pub slot_added : (here k : Bool) (o : Option Text) (x : Text) (t u : Term ℕ) → x ≡ text_of t → Slot k o u → Slot (here || k) (cond here (Some x) o) (cond here t u)
 slot_added true k o x t u w s = w
 slot_added false k o x t u w s = s
 
-pub slot_changed : (here k : Bool) (o : Option Text) (x : Text) (t u : Term ℕ) → (here ≡ true → k ≡ true) → used x ≡ text_of t → Slot k o u → Slot k (cond here (Some x) o) (cond here t u)
+pub slot_changed : (here k : Bool) (o : Option Text) (x : Text) (t u : Term ℕ) → (here ≡ true → k ≡ true) → x ≡ text_of t → Slot k o u → Slot k (cond here (Some x) o) (cond here t u)
 slot_changed true k o x t u there w s = subst (λ b. Slot b (Some x) t) (sym (there refl)) w
 slot_changed false k o x t u there w s = s
 

@@ -3,7 +3,6 @@
 use Rattle.std.specs.Prelude.{◌≡◌, ℕ, ◌≤◌, Bool, true, false, List, ◌∷◌, Some, None, Ok, Err, Option, Result, slice_index_or}
 use Rattle.algebra.specs.Terms.{Term}
 use Rattle.algebra.specs.Texts.{text_of}
-use Rattle.texts.specs.Held.{used}
 use Rattle.texts.specs.declared.text.Text.{Text}
 use Rattle.trees.specs.declared.record.Record.{Record}
 use Rattle.trees.specs.declared.refusal.TreeRefusal.{TreeRefusal}
@@ -14,7 +13,7 @@ use Rattle.trees.specs.Triggers.{read}
 
 -- a text is there where the input is known, and it is its term's
 abbrev pub Slot : Bool → Option Text → Term ℕ → Type 0
-Slot true (Some x) t = used x ≡ text_of t
+Slot true (Some x) t = x ≡ text_of t
 Slot true None t = ⊥
 Slot false (Some x) t = ⊥
 Slot false None t = Unit {0}

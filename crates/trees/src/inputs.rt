@@ -2,7 +2,6 @@
 ghost use Rattle.std.specs.Prelude.{◌≡◌, ℕ, ◌<◌, ◌≤◌, false, cond, ◌||◌, Some, List, [], length, option_map, IsSome, ◌==◌, nat_le};
 ghost use Rattle.algebra.specs.Terms.{leaf};
 ghost use Rattle.algebra.specs.Texts.{text_of};
-ghost use Rattle.texts.specs.Held.{used};
 ghost use Rattle.trees.specs.Held.{Holds, After, input_at, text_in, read_in};
 ghost use Rattle.trees.specs.declared.record.Record.{Record};
 ghost use Rattle.trees.specs.declared.record.Record.TheVariants.{Joins, Triggers};
@@ -29,10 +28,10 @@ pub struct Inputs {
 // The letter of an event.
 fn letter_text(event: u8) -> Text
     requires { event < 24 }
-    ensures { used result ≡ text_of (leaf event) }
+    ensures { result ≡ text_of (leaf event) }
 {
     let mut text = Text::empty();
-    let _ = text.append(&[b'a' + event]);
+    text.append(&[b'a' + event]).unwrap();
     text
 }
 

@@ -1,6 +1,5 @@
 // Reads a tree from the front.
 ghost use Rattle.std.specs.Prelude.{◌≡◌, IfOk};
-ghost use Rattle.texts.specs.Held.{used};
 ghost use Rattle.trees.specs.Means.{Means, SameTree, Source};
 ghost use Rattle.trees.specs.Reading.{Answer, answer, Ended, Ending, Outcome};
 
@@ -51,7 +50,7 @@ pub fn read_tree(bytes: &[u8]) -> Result<Tree, TreeRefusal>
     ensures single { (a : Answer) → Outcome bytes.now a → answer result ≡ a }
     ensures meaning { IfOk result (λ t. Means bytes.now t) }
     ensures sole { IfOk result (λ t. (s : Tree) → Means bytes.now s → SameTree s t) }
-    ensures source { IfOk result (λ t. Source t.events (used t.source)) }
+    ensures source { IfOk result (λ t. Source t.events t.source) }
 {
     let [events, records, body @ ..] = bytes else {
         return Err(TreeRefusal::Form);

@@ -1,9 +1,11 @@
 // Why the bytes of a tree are refused.
 ghost use Rattle.std.specs.Prelude.{◌≡◌};
-ghost use Rattle.trees.specs.Refusals.{tree_code};
+ghost use Rattle.trees.specs.declared.refusal.TreeRefusal.TheVariants.{TooLong};
 
+use algebra::Refusal;
 use std::error::Error;
 use std::fmt;
+use texts::text::NoRoom;
 
 #[derive(Clone, Copy, Debug, PartialEq, Eq, Hash)]
 pub enum TreeRefusal {
@@ -21,11 +23,14 @@ pub enum TreeRefusal {
     NoSource,
 }
 
-impl TreeRefusal {
-    // The number of the refusal.
-    pub fn code(self) -> u8
-        ensures { result ≡ tree_code self }
-    {
+impl Refusal for TreeRefusal {
+    ghost use Rattle.trees.specs.Refusals.{tree_code, tree_codes_differ};
+
+    ghost number = { tree_code };
+
+    ghost distinct = { tree_codes_differ };
+
+    fn code(self) -> u8 {
         match self {
             TreeRefusal::Form => 1,
             TreeRefusal::Counts => 2,
@@ -34,6 +39,14 @@ impl TreeRefusal {
             TreeRefusal::TooLong => 5,
             TreeRefusal::NoSource => 6,
         }
+    }
+}
+
+impl From<NoRoom> for TreeRefusal {
+    ghost from_gives = { λ _ refusal. refusal ≡ TooLong };
+
+    fn from(_no: NoRoom) -> TreeRefusal {
+        TreeRefusal::TooLong
     }
 }
 
