@@ -19,7 +19,7 @@ struct Input {
     is_read: bool,
 }
 
-// By place: the events from 0, and the gate of record k at 64 + k.
+// By place, in fixed memory: the events from 0, and the gate of record k at 64 + k.
 #[derive(Drop)]
 pub struct Inputs {
     places: [Option<Input>; 96],
@@ -47,6 +47,7 @@ impl Inputs {
     pub fn new(counts: Counts) -> Inputs
         ensures { Holds counts.events [] result }
     {
+        // One event after another: `array::from_fn` moves all the places, and a tree is then read several times slower.
         let mut inputs = Inputs { places: [None; 96] };
         for event in 0..counts.events {
             inputs.put(usize::from(event), letter_text(event));

@@ -32,6 +32,7 @@ fn read_records(counts: Counts, body: &[u8]) -> Result<Tree, TreeRefusal>
 {
     let mut inputs = Inputs::new(counts);
     let mut rest = body;
+    // A loop, since each record begins where the one before it ends, and both steps may refuse it.
     for k in 0..counts.records {
         let (next, after) = read_record(rest)?;
         inputs.add(usize::from(k), next)?;

@@ -63,7 +63,7 @@ impl TryFrom<u8> for Kind {
     }
 }
 
-// An input is a byte: below 64 an event, and 64 + k the gate of record k.
+// An input is the byte that is written, whatever it is: below 64 an event, and 64 + k the gate of record k.
 #[derive(Clone, Copy, Debug, PartialEq, Eq, Hash)]
 pub enum Record {
     Joins { gate: Gate, first: u8, second: u8 },
