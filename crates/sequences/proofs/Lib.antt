@@ -21,3 +21,4 @@ pub mod Held
 pub mod Datings
 pub mod Exact
 pub mod Only
+pub mod Earliest

@@ -7,8 +7,8 @@ use Rattle.algebra.proofs.Refusals.{one_answer}
 use Rattle.sequences.specs.Closing.{CloseAsks, Closed}
 use Rattle.sequences.specs.Codes.{close_code, line_code, table_code}
 use Rattle.sequences.specs.Dates.{table_date}
-use Rattle.sequences.specs.Tables.{DateAsks, LineAnswered, LineAsks, Lined, TableDated, held}
-use Rattle.sequences.specs.declared.table.Table.{Table}
+use Rattle.sequences.specs.Tables.{DateAsks, LineAnswered, LineAsks, Lined, TableDated}
+use Rattle.sequences.specs.declared.row.Row.{Row}
 use Rattle.sequences.specs.declared.refusals.CloseRefusal.{CloseRefusal}
 use Rattle.sequences.specs.declared.refusals.CloseRefusal.TheVariants.{NoTree, NoSum, TooMany, ImpossibleSequence}
 use Rattle.sequences.specs.declared.refusals.LineRefusal.{LineRefusal}
@@ -46,10 +46,10 @@ table_apart NoDating NoDating h = refl
 pub one_closing : (bs : List ℕ) (P : Unit {0} → Type 0) (r s : Result (Unit {0}) CloseRefusal) → Closed bs P r → Closed bs P s → s ≡ r
 one_closing bs P r s a b = one_answer close_code (CloseAsks bs) P close_apart (λ all x y p q. refl) s r b a
 
-pub one_line : (t : Table) (row : ℕ) (old new : List ℕ) (r s : Result ℕ LineRefusal) → LineAnswered t row old new r → LineAnswered t row old new s → s ≡ r
-one_line t row old new r s a b =
-    one_answer line_code (LineAsks t row (length old)) (Lined t row old new) line_apart (λ all x y p q. p.long ∙ sym q.long) s r b a
+pub one_line : (rs : List Row) (row : ℕ) (old new : List ℕ) (r s : Result ℕ LineRefusal) → LineAnswered rs row old new r → LineAnswered rs row old new s → s ≡ r
+one_line rs row old new r s a b =
+    one_answer line_code (LineAsks rs row (length old)) (Lined rs row old new) line_apart (λ all x y p q. p.long ∙ sym q.long) s r b a
 
-pub one_date : {D : Type 0} (K : Kind D) (ds : List D) (t : Table) (r s : Result D TableRefusal) → TableDated K ds t r → TableDated K ds t s → s ≡ r
-one_date K ds t r s a b =
-    one_answer table_code (DateAsks ds) (λ p. p ≡ table_date K (dating_of K ds) (held t)) table_apart (λ all x y p q. p ∙ sym q) s r b a
+pub one_date : {D : Type 0} (K : Kind D) (ds : List D) (rs : List Row) (r s : Result D TableRefusal) → TableDated K ds rs r → TableDated K ds rs s → s ≡ r
+one_date K ds rs r s a b =
+    one_answer table_code (DateAsks ds) (λ p. p ≡ table_date K (dating_of K ds) rs) table_apart (λ all x y p q. p ∙ sym q) s r b a

@@ -3,7 +3,7 @@
 use Rattle.std.proofs.Common.{◌≡◌, ℕ, ◌+◌, ◌-◌, ◌<◌, ◌≤◌, Bool, true, false, cond, not, ◌&&◌, T, eqb, leb, List, [], ◌∷◌, ◌++◌, length, get_or, take, set, Some, None, Option, sym, refl, ap, ◌∙◌, subst, ap₂, inl, inr, add-one, arith, leb→le, length-append, take-suc}
 use Rattle.std.proofs.lemmas.Bool.{cond_both, cases_lt, eqb-false}
 use Rattle.sequences.specs.Rows.{Fitting, absent, blank, entered, made, padded}
-use Rattle.sequences.specs.Scans.{State, Keeps, Ready, after, advanced, begun, completed, ends, is_letter, moved, reading_at, run, start, step, step_of, stepped}
+use Rattle.sequences.specs.Scans.{State, Keeps, Ready, after, advanced, begun, completed, is_letter, moved, reading_at, run, start, step, step_of, stepped}
 use Rattle.sequences.specs.declared.row.Factor.{Factor}
 use Rattle.sequences.specs.declared.row.Factor.TheVariants.{Letter}
 use Rattle.sequences.specs.declared.row.Row.{Row}
@@ -78,9 +78,6 @@ step_good Nothing p s b h = nothing_good p s
 pub fits_some : (m : Step) (f : Factor) (p s : ℕ) → Good p s m → m.factor ≡ Some f → Fitting f
 fits_some m f p s g e = subst FitsIf e g.fits
 
-pub ends_small : (p : ℕ) → ends p ≤ 1
-ends_small p = cond_both (eqb p 0) 1 0 (λ n. n ≤ 1) (λ e. omega arith) (λ e. omega arith)
-
 run_append : (st : State) (bs : List ℕ) (b : ℕ) → run st (bs ++ (b ∷ [])) ≡ step (run st bs) b
 run_append st [] b = refl
 run_append st (c ∷ bs) b = run_append (step st c) bs b
@@ -107,7 +104,7 @@ module _ (st : State) (g : Reading) (rows : List Row) (count b : ℕ) (m : Step)
   -- the rows with the factor in the row of the sequence being read
   module _ (f : Factor) (rows' : List Row) (count' : ℕ) (is : m.factor ≡ Some f)
       (in_row : count < 64 → rows' ≡ set rows count (entered f (get_or rows count absent))) (past : 64 ≤ count → rows' ≡ rows)
-      (counts : count' ≡ count + ends g.parts) where
+      (last : Bool) (is_last : last ≡ eqb g.parts 0) (counts : count' ≡ count + cond last 1 0) where
     abbrev new : Row
     new = entered f st.row
 
@@ -141,4 +138,5 @@ module _ (st : State) (g : Reading) (rows : List Row) (count b : ℕ) (m : Step)
         let a : step st b ≡ ended (eqb st.reading.parts 0) =
         advances ∙ ap (λ (o : Option Factor). after st.reading.parts m.next o st.done st.row) is in
         subst (λ (x : State). Keeps x m.next rows' count') (sym a)
-        (by_test (eqb st.reading.parts 0) (counts ∙ ap (λ (x : Reading). count + ends x.parts) (sym k.same)))
+        (by_test (eqb st.reading.parts 0)
+        (counts ∙ ap (λ (b : Bool). count + cond b 1 0) (is_last ∙ ap (λ (x : Reading). eqb x.parts 0) (sym k.same))))

@@ -83,10 +83,6 @@ is_end (Second sign v) = false
 is_end End = true
 is_end Nothing = false
 
--- 1 where no part of the sequence is yet to come
-abbrev pub ends : ℕ → ℕ
-ends p = cond (p == 0) 1 0
-
 -- the letter that is kept for a pair is among the 24
 abbrev pub Ready : Wants → Type 0
 Ready Sum = Unit {0}

@@ -1,7 +1,6 @@
 // Cut sequences: a text that is a sum of sequences closes into a table of rows, which has a date and prints its lines.
 #![tactic(auto)]
 
-mod closing;
 mod dating;
 mod printing;
 pub mod refusals;

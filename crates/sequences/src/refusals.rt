@@ -2,8 +2,11 @@
 ghost use Rattle.std.specs.Prelude.{◌≡◌};
 ghost use Rattle.sequences.specs.Codes.{close_code, line_code, table_code};
 
+use std::error::Error;
+use std::fmt;
+
 // Why a text does not close into a table. `NoTree` is for callers whose text comes from a tree that has to be open.
-#[derive(Clone, Copy)]
+#[derive(Clone, Copy, Debug, PartialEq, Eq)]
 pub enum CloseRefusal {
     NoTree,
     NoSum,
@@ -25,8 +28,21 @@ impl CloseRefusal {
     }
 }
 
+impl fmt::Display for CloseRefusal {
+    fn fmt<W: fmt::Write>(&self, f: &mut fmt::Formatter<W>) -> fmt::Result {
+        f.write_str(match self {
+            CloseRefusal::NoTree => "no tree is open",
+            CloseRefusal::NoSum => "the text is no sum and not N",
+            CloseRefusal::TooMany => "it has more than 64 sequences",
+            CloseRefusal::ImpossibleSequence => "a sequence is impossible",
+        })
+    }
+}
+
+impl Error for CloseRefusal {}
+
 // Why a table has no date: there are not exactly 24 dates.
-#[derive(Clone, Copy)]
+#[derive(Clone, Copy, Debug, PartialEq, Eq)]
 pub enum TableRefusal {
     NoDating,
 }
@@ -42,8 +58,18 @@ impl TableRefusal {
     }
 }
 
+impl fmt::Display for TableRefusal {
+    fn fmt<W: fmt::Write>(&self, f: &mut fmt::Formatter<W>) -> fmt::Result {
+        f.write_str(match self {
+            TableRefusal::NoDating => "the dating has not exactly 24 dates",
+        })
+    }
+}
+
+impl Error for TableRefusal {}
+
 // Why a line is not printed: the buffer has fewer than 512 bytes, or the table has no such row.
-#[derive(Clone, Copy)]
+#[derive(Clone, Copy, Debug, PartialEq, Eq)]
 pub enum LineRefusal {
     SmallBuffer,
     NoRow,
@@ -60,3 +86,14 @@ impl LineRefusal {
         }
     }
 }
+
+impl fmt::Display for LineRefusal {
+    fn fmt<W: fmt::Write>(&self, f: &mut fmt::Formatter<W>) -> fmt::Result {
+        f.write_str(match self {
+            LineRefusal::SmallBuffer => "the buffer has under 512 bytes",
+            LineRefusal::NoRow => "the table has no such row",
+        })
+    }
+}
+
+impl Error for LineRefusal {}

@@ -1,6 +1,6 @@
 // Reads a sum of sequences byte by byte, from the left, and enters each factor into the row of its sequence.
-ghost use Rattle.std.specs.Prelude.{◌≡◌, ◌<◌, ◌≤◌, length};
-ghost use Rattle.sequences.specs.Scans.{Keeps, begun, completed, ends, is_end, is_letter, moved, onward, reading_at, run, start, step_of};
+ghost use Rattle.std.specs.Prelude.{◌≡◌, ◌==◌, ◌<◌, ◌≤◌, length};
+ghost use Rattle.sequences.specs.Scans.{Keeps, begun, completed, is_end, is_letter, moved, onward, reading_at, run, start, step_of};
 ghost use Rattle.sequences.specs.declared.scan.Wants.TheVariants.{First, Second, Sum};
 
 use crate::row::{Factor, Row, Sign};
@@ -83,21 +83,18 @@ impl Reading {
         }
     }
 
-    // 1 where a factor ends its sequence.
-    fn ends(self) -> usize
-        ensures { result ≡ ends self.parts }
+    // Whether a factor ends its sequence.
+    fn is_last(self) -> bool
+        ensures { result ≡ (self.parts == 0) }
     {
-        if self.parts == 0 { 1 } else { 0 }
+        self.parts == 0
     }
 
     // Whether a whole sum was read, and nothing after it.
     pub fn ended(self) -> bool
         ensures { result ≡ is_end self.wants }
     {
-        match self.wants {
-            Wants::End => true,
-            _ => false,
-        }
+        matches!(self.wants, Wants::End)
     }
 
     // A byte that ends no factor.
@@ -216,7 +213,9 @@ pub fn scan_sum(text: &[u8]) -> Scan
             if count < 64 {
                 rows[count].enter(factor);
             }
-            count += reading.ends();
+            if reading.is_last() {
+                count += 1;
+            }
         }
         reading = step.next;
     }

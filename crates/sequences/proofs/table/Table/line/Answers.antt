@@ -1,38 +1,23 @@
-use Rattle.std.proofs.Common.{length, Ok, Err, refl, arith}
-use borrow.Author.Tests.{both_ways}
-use Rattle.sequences.specs.Tables.{LineAnswered}
+use Rattle.std.proofs.Common.{◌<◌, length, Err, ap, subst, arith, rules}
+use Rattle.sequences.specs.Stored.{length-held}
+use Rattle.sequences.specs.Tables.{IsTable}
+use Rattle.sequences.specs.declared.row.Row.{Row}
 use Rattle.sequences.specs.declared.refusals.LineRefusal.TheVariants.{SmallBuffer, NoRow}
-use Rattle.sequences.proofs.Held.{line_granted, no_row, small_buffer, tells_row}
+use Rattle.sequences.proofs.Held.{no_row, tells_row}
 use Rattle.sequences.proofs.Only.{one_line}
 use Rattle.sequences.proofs.table.Table.line.Goals as goal
 
-pub returns-then-not-has_room : goal.returns-then-not-has_room
-returns-then-not-has_room c =
-    let t = c.args.self.now in
-    let row = c.args.row in
-    let old = c.args.buffer.now in
-    let why = small_buffer t row (length old) (λ h. both_ways _ c.if-not-has_room.true (c.has_room.ensures.1 h)) in
-    record { outcome = why; only = λ s h. one_line t row old old (Err SmallBuffer) s why h; left = refl; tells = tt }
+pub returns-then-buffer-lt512-clause-only : goal.returns-then-buffer-lt512-clause-only
+returns-then-buffer-lt512-clause-only c =
+    λ s h. one_line c.args.self.now c.args.row c.args.buffer.now c.args.buffer.now (Err SmallBuffer) s (search rules) h
 
-pub returns-then-not-has_row : goal.returns-then-not-has_row
-returns-then-not-has_row c =
-    let t = c.args.self.now in
-    let row = c.args.row in
-    let old = c.args.buffer.now in
-    let room = c.has_room.ensures.0 c.if-not-has_room.false in
-    let why = no_row t row (length old) room (λ h. both_ways _ c.if-not-has_row.true (c.has_row.ensures.1 h)) in
-    record { outcome = why; only = λ s h. one_line t row old old (Err NoRow) s why h; left = refl; tells = tt }
+pub returns-then-row-self-clause-only : goal.returns-then-row-self-clause-only
+returns-then-row-self-clause-only c =
+    let rs = c.args.self.now in
+    let past : c.args.row < length rs → ⊥ = λ h. omega (arith, length-held c.self.inside c.self.invariant, ap (length {A = Row}) c.self.view_is, c.if-row-self.true) in
+    λ s h. one_line rs c.args.row c.args.buffer.now c.args.buffer.now (Err NoRow) s (no_row rs c.args.row (length c.args.buffer.now) c.if-buffer-lt512.false past) h
 
-pub returns : goal.returns
-returns c =
-    let t = c.args.self.now in
-    let row = c.args.row in
-    let old = c.args.buffer.now in
-    let new = c.print.new.out in
-    let room = c.has_room.ensures.0 c.if-not-has_room.false in
-    let low = c.has_row.ensures.0 c.if-not-has_row.false in
-    let why : LineAnswered t row old new (Ok c.print.result) = (
-      line_granted t row (length old) room low,
-      record { written = c.print.ensures.written; long = c.print.ensures.long; fits = omega (arith, t.short row low, c.print.ensures.long) },
-    ) in
-    record { outcome = why; only = λ s h. one_line t row old new (Ok c.print.result) s why h; left = tt; tells = tells_row t row low }
+pub returns-clause-tells : goal.returns-clause-tells
+returns-clause-tells c =
+    let low : c.args.row < length c.args.self.now = omega (arith, length-held c.self.inside c.self.invariant, ap (length {A = Row}) c.self.view_is, c.if-row-self.false) in
+    tells_row c.args.self.now c.args.row (subst IsTable c.self.view_is c.self.invariant.table) low
