@@ -139,11 +139,6 @@ sum_text bs s =
     record { whole = record { term = c.term; written = c.written; letters = closes_among c.closes }; short = c.short }
 
 -- the text N
-pub never_text : (bs : List ℕ) → length bs ≡ 1 → get_or bs 0 0 ≡ never_byte → bs ≡ never_byte ∷ []
-never_text [] h e = absurd (omega arith)
-never_text (b ∷ []) h e = ap (λ (c : ℕ). c ∷ []) e
-never_text (b ∷ c ∷ bs) h e = absurd (omega arith)
-
 pub never_closes : (bs : List ℕ) → bs ≡ never_byte ∷ [] → TextCloses bs []
 never_closes bs e = record { term = never; written = e; short = omega (arith, ap length e); closes = nothing }
 

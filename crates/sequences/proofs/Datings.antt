@@ -1,19 +1,15 @@
 -- One turn of each loop over the dates of a row.
 -- Assumes nothing.
-use Rattle.std.proofs.Common.{◌≡◌, ℕ, suc, ◌+◌, ◌<◌, ◌≤◌, Bool, true, false, cond, not, ◌&&◌, T, eqb, List, length, get_or, take, drop, None, sym, refl, ap, ◌∙◌, subst, ap₂, inl, inr, add-one, arith, eqb→eq, T_not, drop-cons}
+use Rattle.std.proofs.Common.{◌≡◌, ℕ, ◌+◌, ◌<◌, ◌≤◌, Bool, true, false, cond, not, ◌&&◌, T, eqb, List, length, get_or, None, sym, refl, ap, ◌∙◌, subst, ap₂, inl, inr, add-one, arith, eqb→eq, T_not}
 use lib.Dec.{not_T}
-use lib.Seq.{drop-length}
-use Rattle.std.proofs.lemmas.List.{get_or_default, get_or-take}
+use Rattle.std.proofs.lemmas.List.{get_or_default}
 use Rattle.std.proofs.lemmas.Bool.{cases_Bool}
 use Rattle.algebra.specs.Kinds.{Kind}
-use Rattle.algebra.specs.Terms.{dating_of, joined}
-use Rattle.algebra.specs.declared.Operator.TheVariants.{Or}
+use Rattle.algebra.specs.Terms.{dating_of}
 use Rattle.algebra.proofs.Tests.{bool_ext}
-use Rattle.sequences.specs.Dates.{later, latest, row_date, table_date}
+use Rattle.sequences.specs.Dates.{later, latest}
 use Rattle.sequences.specs.Masks.{has}
-use Rattle.sequences.specs.Rows.{absent}
 use Rattle.sequences.specs.Walks.{all, any}
-use Rattle.sequences.specs.declared.row.Row.{Row}
 use Rattle.sequences.proofs.Bits.{has_none}
 use Rattle.sequences.proofs.Tell.{has_ext}
 use Rattle.sequences.proofs.Tests.{all_out, any_in, any_out, is_T, not_T_is, T_not_false}
@@ -68,14 +64,3 @@ module _ {D : Type 0} (K : Kind D) (ds : List D) where
   latest_next p n b e =
       sym (ap (λ (m : ℕ). latest K (dating_of K ds) p m) (add-one n)
       ∙ ap (λ (c : Bool). cond c (later K (latest K (dating_of K ds) p n) (dating_of K ds n)) (latest K (dating_of K ds) p n)) e)
-
-  pub table_none : (rs : List Row) → K.never ≡ table_date K (dating_of K ds) (drop (length rs) rs)
-  table_none rs = sym (ap (table_date K (dating_of K ds)) (drop-length rs))
-
-  -- one row more, from the end
-  pub table_next : (rows : List Row) (len k : ℕ) → k < len → k < length (take len rows)
-      → joined K Or (row_date K (dating_of K ds) (get_or rows k absent)) (table_date K (dating_of K ds) (drop (suc k) (take len rows)))
-      ≡ table_date K (dating_of K ds) (drop k (take len rows))
-  table_next rows len k h l =
-      sym (ap (table_date K (dating_of K ds)) (drop-cons (take len rows) k absent l)
-      ∙ ap (λ (r : Row). joined K Or (row_date K (dating_of K ds) r) (table_date K (dating_of K ds) (drop (suc k) (take len rows)))) (get_or-take len rows k absent h))

@@ -16,9 +16,9 @@ use Rattle.sequences.specs.declared.row.Factor.{Factor}
 use Rattle.sequences.specs.declared.row.Factor.TheVariants.{Letter, Less, Tie}
 use Rattle.sequences.proofs.Tests.{and_in, and_out, not_T_is}
 use Rattle.sequences.proofs.Entered.{bit_out, pair_out, tie_out, blank_sound, blank_listed, blank_precedes, blank_ties, entered_sound}
-use Rattle.sequences.proofs.Tallies.{one_mono, one_small, tally_most}
+use Rattle.sequences.proofs.Tallies.{grid, one, one_mono, one_small, tally, tally_most}
 use Rattle.sequences.proofs.Tables.{some_same, none_some, IsLetter, pair_of_lem, factor_of_lem}
-use Rattle.sequences.specs.Lines.{sifted, paired, items, spell, rest, line_of, LinesFit, one, tally, grid}
+use Rattle.sequences.specs.Lines.{sifted, paired, items, spell, rest, line_of, LinesFit}
 
 or_else : {A B : Type 0} → A ⊎ B → (B → ⊥) → A
 or_else (inl a) n = a
@@ -209,7 +209,3 @@ blank_weight =
 pub lines_fit : LinesFit
 lines_fit t r e =
     line_length (items r) (length (text_of t)) (omega (arith, items_weight r, blank_weight, (grown t blank r blank_sound e).by))
-
-pub total_line : (fs : List Factor) → total fs ≤ length (line_of fs)
-total_line [] = omega arith
-total_line (f ∷ fs) = omega (arith, length-append (spell f) (rest fs), rest_length fs)

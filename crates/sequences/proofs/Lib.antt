@@ -11,7 +11,6 @@ pub mod Entered
 pub mod Tables
 pub mod Tell
 pub mod Fit
-pub mod Fronts
 pub mod Padded
 pub mod Scanned
 pub mod Scanning
@@ -22,3 +21,4 @@ pub mod Datings
 pub mod Exact
 pub mod Only
 pub mod Earliest
+pub mod Spelt

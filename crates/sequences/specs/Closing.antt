@@ -8,7 +8,7 @@ use Rattle.dates.specs.Ticks.{tick_kind}
 use Rattle.dates.specs.declared.Tick.{Tick}
 use Rattle.sequences.specs.Codes.{close_code}
 use Rattle.sequences.specs.Dates.{Happens, table_date}
-use Rattle.sequences.specs.Rows.{absent, padded, row_with}
+use Rattle.sequences.specs.Rows.{absent, row_with}
 use Rattle.sequences.specs.Sequences.{TextCloses, rows_with}
 use Rattle.sequences.specs.Walks.{Impossible}
 use Rattle.sequences.specs.declared.row.Factor.{Factor}

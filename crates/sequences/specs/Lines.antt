@@ -1,6 +1,6 @@
 -- The line of a row: its letters in order, then the '<' pairs, then the '=' pairs with the smaller letter first.
 -- Assumes nothing.
-use Rattle.std.specs.Prelude.{◌≡◌, ℕ, zero, suc, ◌+◌, ◌*◌, ◌<◌, ◌≤◌, Bool, true, false, cond, ◌&&◌, List, [], ◌∷◌, ◌++◌, map, length, drop, nat_lt}
+use Rattle.std.specs.Prelude.{◌≡◌, ℕ, zero, suc, ◌+◌, ◌<◌, ◌≤◌, Bool, cond, ◌&&◌, List, [], ◌∷◌, ◌++◌, map, length, drop, nat_lt}
 use Rattle.std.proofs.Math.Option.{some}
 use Rattle.algebra.specs.Terms.{Term}
 use Rattle.algebra.specs.Texts.{text_of}
@@ -70,10 +70,6 @@ spelt acc (f ∷ fs) = spelt (grown acc f) fs
 abbrev pub front : List ℕ → List ℕ → List ℕ
 front acc xs = acc ++ drop (length acc) xs
 
--- A buffer whose front is acc has the front more after.
-abbrev pub Puts : List ℕ → ℕ → List ℕ → ℕ → (List ℕ → List ℕ) → Type 0
-Puts before at after end more = (acc xs : List ℕ) → before ≡ front acc xs → at ≡ length acc → (after ≡ front (more acc) xs) × (end ≡ length (more acc))
-
 -- the letters of an item are among the 24
 abbrev pub Lettered : Factor → Type 0
 Lettered (Letter v) = v < 24
@@ -84,26 +80,3 @@ Lettered (Tie v w) = (v < 24) × (w < 24)
 abbrev pub stands : Sign → Row → ℕ → ℕ → Bool
 stands Ties r v w = ties r v w && nat_lt v w
 stands Precedes r v w = precedes r v w
-
-abbrev pub one : Bool → ℕ
-one true = 1
-one false = 0
-
--- how many numbers below n pass, and how many pairs
-unfoldable pub tally : ℕ → (ℕ → Bool) → ℕ
-tally zero p = 0
-tally (suc n) p = tally n p + one (p n)
-
-unfoldable pub grid : ℕ → (ℕ → ℕ → Bool) → ℕ
-grid zero p = 0
-grid (suc n) p = grid n p + tally 24 (p n)
-
--- a loop over the second letters, or over the letters: what was written, and how much at most
-pub record Upto (c : ℕ) (mk : ℕ → Factor) (p : ℕ → Bool) (n : ℕ) (a : List ℕ) (i : ℕ) (b : List ℕ) (j : ℕ) : Type 0 where
-  pub puts : Puts a i b j (λ acc. spelt acc (map mk (sifted n p)))
-  pub ends : j ≤ i + c * tally n p
-
--- a loop over the first letters
-pub record PairsUpto (mk : ℕ → ℕ → Factor) (p : ℕ → ℕ → Bool) (n : ℕ) (a : List ℕ) (i : ℕ) (b : List ℕ) (j : ℕ) : Type 0 where
-  pub puts : Puts a i b j (λ acc. spelt acc (paired mk n p))
-  pub ends : j ≤ i + 4 * grid n p

@@ -7,7 +7,7 @@ ghost use Rattle.sequences.specs.declared.refusals.CloseRefusal.{CloseRefusal};
 ghost use Rattle.sequences.specs.declared.refusals.LineRefusal.{LineRefusal};
 
 use super::Table;
-use crate::printing::print;
+use crate::printing::Line;
 use crate::refusals::{CloseRefusal, LineRefusal};
 use crate::row::Row;
 
@@ -65,6 +65,6 @@ impl Table {
         if row >= self.len {
             return Err(LineRefusal::NoRow);
         }
-        Ok(print(&self.rows[row], buffer))
+        Ok(Line::of(&self.rows[row]).copy_to(buffer))
     }
 }

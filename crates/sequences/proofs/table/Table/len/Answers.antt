@@ -1,4 +1,4 @@
-use Rattle.std.proofs.Common.{List, length, sym, ap, ◌∙◌}
+use Rattle.std.proofs.Common.{length, sym, ap, ◌∙◌}
 use Rattle.sequences.specs.Stored.{length-held}
 use Rattle.sequences.specs.declared.row.Row.{Row}
 use Rattle.sequences.proofs.table.Table.len.Goals as goal
