@@ -1,5 +1,6 @@
 pub mod Bits
 pub mod Tests
+pub mod Ranges
 pub mod Tallies
 pub mod Closure
 pub mod Turns

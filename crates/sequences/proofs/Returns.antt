@@ -6,7 +6,8 @@ use Rattle.sequences.specs.Walks.{Walk, stay, less, along, back, Impossible, Sou
 use Rattle.sequences.specs.declared.row.Row.{Row}
 use Rattle.sequences.proofs.Turns.{left_low, tied_low}
 use Rattle.sequences.proofs.Closure.{joined}
-use Rattle.sequences.proofs.Tests.{or_in_l, or_in_r, or_out, and_in, and_out, any_in, any_out, T_not_false}
+use Rattle.sequences.proofs.Tests.{or_in_l, or_in_r, or_out, and_in, and_out, any_in, any_out, is_T, T_not_false}
+use Rattle.std.proofs.lemmas.Bool.{cases_Bool}
 
 -- a test that fails adds nothing
 pub any_next : (p : ℕ → Bool) (n : ℕ) → any n p ≡ false → p n ≡ false → any (n + 1) p ≡ false
@@ -98,3 +99,10 @@ module _ (r : Row) (g : ℕ → ℕ → Bool) (s : Sound r) (closes : Closes (we
       T_not_false _ e
       (any_in 24 (λ v. any 24 (λ w. precedes r v w && g w v)) o.left (left_low r s _ _ o.by)
       (any_in 24 (λ w. precedes r o.left w && g w o.left) o.right (s.right _ _ o.by) (and_in _ _ o.by ((closes o.right o.left).1 o.back))))
+
+  -- an answer that is those tests tells whether the row is impossible
+  pub decides : (b : Bool) → b ≡ any 24 (λ v. any 24 (λ w. precedes r v w && g w v)) → (T b → Impossible r) × (Impossible r → T b)
+  decides b e = (
+    λ t. let k = any_out 24 (λ v. any 24 (λ w. precedes r v w && g w v)) (subst T e t) in found k.0 k.2,
+    λ i. elim (cases_Bool b) [ inl h ↦ is_T b h | inr h ↦ absurd (none (sym e ∙ h) i) ],
+  )

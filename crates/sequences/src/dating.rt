@@ -7,8 +7,8 @@ ghost use Rattle.sequences.specs.Masks.{has};
 ghost use Rattle.sequences.specs.Dates.{asked, counts, later, latest, meets, or_never, pair_meets, row_date};
 ghost use Rattle.sequences.specs.Walks.{Sound, all, any};
 
+use crate::letters::member;
 use crate::row::Row;
-use crate::walk::member;
 use dates::Date;
 
 // Where the pair stands, p is before q.

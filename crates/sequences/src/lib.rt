@@ -2,6 +2,7 @@
 #![tactic(auto)]
 
 mod dating;
+mod letters;
 mod printing;
 pub mod refusals;
 mod row;

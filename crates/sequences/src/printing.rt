@@ -5,7 +5,7 @@ ghost use Rattle.sequences.specs.Rows.{listed, made};
 ghost use Rattle.sequences.specs.declared.row.Factor.TheVariants.{Letter};
 
 use crate::row::{Factor, Row, Sign};
-use crate::walk::member;
+use crate::letters::member;
 use std::marker::Model;
 
 // A line as far as it is written. Clauses see its bytes.

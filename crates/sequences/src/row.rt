@@ -1,20 +1,15 @@
 // The row of a sequence: its letters and pairs, as sets of letters.
-ghost use Rattle.std.specs.Prelude.{◌≡◌, ◌<◌};
-ghost use Rattle.sequences.specs.Masks.{added};
+ghost use Rattle.std.specs.Prelude.{◌≡◌};
 ghost use Rattle.sequences.specs.Rows.{Fitting, blank, entered, made};
 
-// Of each of the 24 letters, a set of letters, by its bits.
-#[derive(Clone, Copy)]
-pub struct Pairs {
-    pub of: [u32; 24],
-}
+use crate::letters::LetterSets;
 
 // A set of letters, and of each letter the letters that it precedes and those that it ties.
 #[derive(Clone, Copy)]
 pub struct Row {
     pub letters: u32,
-    pub before: Pairs,
-    pub ties: Pairs,
+    pub before: LetterSets,
+    pub ties: LetterSets,
 }
 
 // A letter, or a pair of two: `Less` is written with '<' and `Tie` with '='.
@@ -44,15 +39,6 @@ impl Sign {
     }
 }
 
-impl Pairs {
-    fn add(&mut self, first: u8, second: u8)
-        requires { (first < 24) × (second < 24) }
-        ensures { self.new.of ≡ added first second self.old.of }
-    {
-        self.of[first as usize] |= 1 << second;
-    }
-}
-
 impl Row {
     // A row with nothing in it.
     pub fn blank() -> Row
@@ -60,8 +46,8 @@ impl Row {
     {
         Row {
             letters: 0,
-            before: Pairs { of: [0; 24] },
-            ties: Pairs { of: [0; 24] },
+            before: LetterSets::empty(),
+            ties: LetterSets::empty(),
         }
     }
 

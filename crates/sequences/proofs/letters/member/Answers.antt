@@ -1,7 +1,7 @@
 use Rattle.std.proofs.Common.{ℕ, ◌/◌, ◌^◌, eqb, ap}
 use lib.Bits.{and_mask}
 use Rattle.sequences.specs.Masks.{has}
-use Rattle.sequences.proofs.walk.member.Goals as goal
+use Rattle.sequences.proofs.letters.member.Goals as goal
 
 pub returns : goal.returns
 unfolding has

@@ -1,0 +1,53 @@
+// Sets of the 24 letters, as the bits of numbers, and of each letter such a set.
+ghost use Rattle.std.specs.Prelude.{◌≡◌, ℕ, ◌<◌, ◌||◌, replicate};
+ghost use Rattle.sequences.specs.Masks.{added, has, linked};
+
+use std::array;
+
+// The letter v is in the set.
+pub fn member(set: u32, v: usize) -> bool
+    requires { v < 24 }
+    ensures { result ≡ has set v }
+{
+    (set >> v) & 1 == 1
+}
+
+// Of each of the 24 letters, a set of letters.
+#[derive(Clone, Copy)]
+pub struct LetterSets {
+    pub of: [u32; 24],
+}
+
+impl LetterSets {
+    // Of each letter, no letters.
+    pub fn empty() -> LetterSets
+        ensures { result.of ≡ replicate 24 0 }
+    {
+        LetterSets { of: [0; 24] }
+    }
+
+    // The letter w is in the set of v.
+    pub fn has(&self, v: usize, w: usize) -> bool
+        requires { (v < 24) × (w < 24) }
+        ensures { result ≡ linked self.now.of v w }
+    {
+        member(self.of[v], w)
+    }
+
+    // The letter w goes into the set of v.
+    pub fn add(&mut self, v: u8, w: u8)
+        requires { (v < 24) × (w < 24) }
+        ensures { self.new.of ≡ added v w self.old.of }
+    {
+        self.of[v as usize] |= 1 << w;
+    }
+
+    // Of each letter, the letters of either set.
+    pub fn union(&self, other: &LetterSets) -> LetterSets
+        ensures { (v w : ℕ) → linked result.of v w ≡ linked self.now.of v w || linked other.now.of v w }
+    {
+        LetterSets {
+            of: array::from_fn(|v| self.of[v] | other.of[v]),
+        }
+    }
+}
