@@ -1,13 +1,15 @@
--- What `all`, `any` and `array::from_fn` give over the 24 letters.
+-- What `all`, `any`, `array::from_fn` and `reduce` make of closures that compute a function.
 -- Assumes nothing.
-use Rattle.std.proofs.Common.{◌≡◌, ℕ, zero, suc, ◌+◌, ◌<◌, ◌≤◌, Bool, true, false, List, length, get_or, Option, refl, sym, ap, ◌∙◌, subst, inl, inr, zero-add, arith}
+use Rattle.std.proofs.Common.{◌≡◌, ℕ, zero, suc, ◌+◌, ◌<◌, ◌≤◌, Bool, true, false, List, [], ◌∷◌, length, get_or, Some, None, Option, refl, sym, ap, ◌∙◌, subst, inl, inr, zero-add, arith}
 use denote.Param.Members.{Mut}
 use Rattle.std.specs.Array.{IsFromFnResult, IsFromFnResultFrom}
 use Rattle.std.specs.Bool.{MatchBool}
 use Rattle.std.specs.Fn.{Called}
-use Rattle.std.specs.Iterator.{ChecksAll, ChecksAny}
-use Rattle.std.specs.List.{range_with_len, AllWithin, HoldsAt}
+use Rattle.std.specs.Iterator.{ChecksAll, ChecksAny, Drains, ReducesItems}
+use Rattle.std.specs.List.{range_with_len, reduce, AllWithin, FoldsTo, HoldsAt}
+use Rattle.std.specs.Option.{MatchOption}
 use Rattle.std.proofs.lemmas.Iterator.{YieldsList, cases_from_all, cases_from_any}
+use Rattle.std.proofs.lemmas.Iterator.Consumers.{reduce_from_yields_List}
 use Rattle.std.proofs.lemmas.Bool.{cases_eq}
 use Rattle.std.proofs.lemmas.List.FromFn.{length-range_with_len, get_or-range_with_len}
 use Rattle.sequences.specs.Walks.{all, any}
@@ -62,3 +64,20 @@ module _ {F B : Type 0} {g : Mut F (ℕ × Unit {0}) B} {f : F} (h : ℕ → B) 
 
   pub made_at : (ys : List B) (n : ℕ) → IsFromFnResult g f ys n → (k : ℕ) (d : B) → k < n → get_or ys k d ≡ h k
   made_at ys n m k d low = made_from ys 0 n f refl m.each k d (omega arith) (omega arith)
+
+-- what `reduce` makes of a list
+module _ {A F : Type 0} {g : Mut F (A × (A × Unit {0})) A} {f : F} (h : A → A → A)
+    (computes : (x y b : A) (q : F) → Called g f (x, (y, tt)) b q → (q ≡ f) × (b ≡ h x y)) where
+  folded : (xs : List A) (j k : F) (x y : A) → j ≡ f → FoldsTo {P = F × A} (λ a z b. Called g a.0 (a.1, (z, tt)) b.1 b.0) (j, x) xs (k, y) → FoldsTo (λ a z b. b ≡ h a z) x xs y
+  folded [] j k x y e m = ap (λ (p : F × A). p.1) m
+  folded (z ∷ zs) j k x y e (m, called, rest) =
+      let now = computes x z m.1 m.0 (subst (λ (i : F). Called g i (x, (z, tt)) m.1 m.0) e called) in
+      (m.1, now.1, folded zs m.0 k m.1 y now.0 rest)
+
+  module _ {S : Type 0} (steps : S → Option A → S → Type 0) (s : S) where
+    plain : (o : Option A) → ReducesItems steps g s f o → MatchOption o (Drains steps s []) (λ y. (x : A) × (xs : List A) × Drains steps s (x ∷ xs) × FoldsTo (λ a z b. b ≡ h a z) x xs y)
+    plain None d = d
+    plain (Some y) (x, xs, k, d, m) = (x, xs, d, folded xs f k x y refl m)
+
+  pub reduced : {S : Type 0} {steps : S → Option A → S → Type 0} {all : List A} (s : S) (r : Option A) → ReducesItems steps g s f r → YieldsList steps (λ x. x) s all → r ≡ reduce h all
+  reduced {steps = steps} s r ran yields = reduce_from_yields_List h s r (plain steps s r ran) yields
