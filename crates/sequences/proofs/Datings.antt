@@ -1,6 +1,6 @@
--- Whether a set has a letter, the latest date, and one turn of the loop over the rows' dates.
+-- Whether a set has a letter, the latest date, and the date at a place.
 -- Assumes nothing.
-use Rattle.std.proofs.Common.{◌≡◌, ℕ, zero, suc, ◌+◌, ◌-◌, ◌/◌, ◌%◌, ◌^◌, ◌<◌, ◌≤◌, Bool, true, false, cond, not, T, eqb, List, [], ◌∷◌, ◌++◌, map, length, get_or, take, drop, Some, Option, bit_and, sym, refl, ap, ◌∙◌, subst, inl, inr, add-one, zero-add, arith, eqb→eq, T_not, drop-cons}
+use Rattle.std.proofs.Common.{◌≡◌, ℕ, zero, suc, ◌+◌, ◌-◌, ◌/◌, ◌%◌, ◌^◌, ◌<◌, ◌≤◌, Bool, true, false, cond, not, T, eqb, List, [], ◌∷◌, ◌++◌, map, length, get_or, Some, Option, bit_and, sym, refl, ap, ◌∙◌, subst, inl, inr, add-one, zero-add, arith, eqb→eq, T_not}
 use mathlib.Core.List.{map-id, map-append, append-nil}
 use native.Mathlib.Nat.{div-eq_of_lt}
 use Rattle.std.specs.List.{filter, range_with_len, reduce}
@@ -9,18 +9,15 @@ use Rattle.std.proofs.lemmas.Nat.{and_mask, field_of, pow_below}
 use Rattle.std.proofs.lemmas.List.FromFn.{filter_of_map_range_with_len_more}
 use Rattle.std.proofs.lemmas.List.Sums.{fold-append}
 use lib.Dec.{not_T}
-use lib.Seq.{drop-length}
-use Rattle.std.proofs.lemmas.List.{get_or_default, get_or-take}
+use Rattle.std.proofs.lemmas.List.{get_or_default}
 use Rattle.std.proofs.lemmas.Bool.{cases_Bool, cases_lt, ne_eqb}
 use Rattle.algebra.specs.Kinds.{Kind}
 use Rattle.algebra.specs.Terms.{dating_of, joined}
-use Rattle.algebra.specs.declared.Operator.TheVariants.{Or, And}
+use Rattle.algebra.specs.declared.Operator.TheVariants.{And}
 use Rattle.algebra.proofs.Tests.{bool_ext}
-use Rattle.sequences.specs.Dates.{later, latest, row_date, table_date}
+use Rattle.sequences.specs.Dates.{later, latest}
 use Rattle.sequences.specs.Masks.{has}
-use Rattle.sequences.specs.Rows.{absent}
 use Rattle.sequences.specs.Walks.{any}
-use Rattle.sequences.specs.declared.row.Row.{Row}
 use Rattle.sequences.proofs.Bits.{has_none}
 use Rattle.sequences.proofs.Tell.{has_ext}
 use Rattle.sequences.proofs.Tests.{any_in, any_out, is_T, not_T_is, T_not_false}
@@ -115,14 +112,3 @@ module _ {D : Type 0} (K : Kind D) (ds : List D) where
   -- what is read at a place is the date of that event
   pub read_at : (i : ℕ) (x : D) → i < length ds → x ≡ get_or ds i x → x ≡ dating_of K ds i
   read_at i x h e = e ∙ get_or_default ds i x K.never h
-
-  pub table_none : (rs : List Row) → K.never ≡ table_date K (dating_of K ds) (drop (length rs) rs)
-  table_none rs = sym (ap (table_date K (dating_of K ds)) (drop-length rs))
-
-  -- one row more, from the end
-  pub table_next : (rows : List Row) (len k : ℕ) → k < len → k < length (take len rows)
-      → joined K Or (row_date K (dating_of K ds) (get_or rows k absent)) (table_date K (dating_of K ds) (drop (suc k) (take len rows)))
-      ≡ table_date K (dating_of K ds) (drop k (take len rows))
-  table_next rows len k h l =
-      sym (ap (table_date K (dating_of K ds)) (drop-cons (take len rows) k absent l)
-      ∙ ap (λ (r : Row). joined K Or (row_date K (dating_of K ds) r) (table_date K (dating_of K ds) (drop (suc k) (take len rows)))) (get_or-take len rows k absent h))

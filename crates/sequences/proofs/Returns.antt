@@ -1,6 +1,6 @@
 -- A row is impossible where a letter precedes one from which one comes back to it.
 -- Assumes nothing.
-use Rattle.std.proofs.Common.{◌≡◌, ℕ, ◌+◌, Bool, true, false, ◌&&◌, ◌||◌, T, ◌⊎◌, sym, refl, ap, ◌∙◌, subst, ap₂, inl, inr, add-one}
+use Rattle.std.proofs.Common.{◌≡◌, ℕ, Bool, true, false, ◌&&◌, ◌||◌, T, ◌⊎◌, sym, refl, ◌∙◌, subst, inl, inr}
 use Rattle.sequences.specs.Rows.{precedes, ties}
 use Rattle.sequences.specs.Walks.{Walk, stay, less, along, back, Impossible, Sound, Chain, one, more, any, Closes, Low}
 use Rattle.sequences.specs.declared.row.Row.{Row}
@@ -8,11 +8,6 @@ use Rattle.sequences.proofs.Turns.{left_low, tied_low}
 use Rattle.sequences.proofs.Closure.{joined}
 use Rattle.sequences.proofs.Tests.{or_in_l, or_in_r, or_out, and_in, and_out, any_in, any_out, is_T, T_not_false}
 use Rattle.std.proofs.lemmas.Bool.{cases_Bool}
-
--- a test that fails adds nothing
-pub any_next : (p : ℕ → Bool) (n : ℕ) → any n p ≡ false → p n ≡ false → any (n + 1) p ≡ false
-unfolding any
-any_next p n e f = ap (λ (m : ℕ). any m p) (add-one n) ∙ ap₂ ◌||◌ f e
 
 module _ (r : Row) where
   -- any pair as a link

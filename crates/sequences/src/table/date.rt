@@ -1,9 +1,8 @@
 // The date of a table under a dating.
-ghost use Rattle.std.specs.Prelude.{◌≡◌, length, All, IfOk, Result};
+ghost use Rattle.std.specs.Prelude.{◌≡◌, length, IfOk, Result};
 ghost use Rattle.algebra.specs.Terms.{dating_of};
 ghost use Rattle.sequences.specs.Dates.{RowsDated, table_date};
 ghost use Rattle.sequences.specs.Tables.{KeepsDateOf, TableDated};
-ghost use Rattle.sequences.specs.Walks.{Sound};
 ghost use Rattle.sequences.specs.declared.refusals.TableRefusal.{TableRefusal};
 
 use super::Table;
@@ -15,8 +14,7 @@ use texts::evaluation::is_dating;
 
 // The earliest of the rows' dates, the first such row's, and never if there are no rows.
 fn earliest<D: Date>(rows: &[Row], dating: &[D]) -> D
-    requires sound { All Sound rows.now }
-    requires dates { length dating.now ≡ 24 }
+    requires { length dating.now ≡ 24 }
     ensures { result ≡ table_date D.kind (dating_of D.kind dating.now) rows.now }
 {
     let mut earliest = D::never();

@@ -1,7 +1,6 @@
-use Rattle.std.proofs.Common.{◌≡◌, All}
+use Rattle.std.proofs.Common.{◌≡◌}
 use Rattle.algebra.specs.Terms.{dating_of}
 use Rattle.sequences.specs.Dates.{table_date}
-use Rattle.sequences.specs.Walks.{Sound}
 use Rattle.sequences.proofs.Earliest.{earliest_with}
 use Rattle.sequences.proofs.table.date.earliest.Given as goal
 
@@ -9,5 +8,4 @@ abbrev pub invariant-loop-row : goal.invariant-loop-row
 invariant-loop-row g l =
     let K = g.D.Date.kind in
     let d = dating_of K l.dating in
-    let rest = l.row-iterator.iter.rest.now in
-    record { sound : All Sound rest; dates : earliest_with K d rest l.earliest ≡ table_date K d l.rows }
+    earliest_with K d l.row-iterator.iter.rest.now l.earliest ≡ table_date K d l.rows
