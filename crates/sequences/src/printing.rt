@@ -4,8 +4,8 @@ ghost use Rattle.sequences.specs.Lines.{Lettered, front, gap, grown, line, paire
 ghost use Rattle.sequences.specs.Rows.{listed, made};
 ghost use Rattle.sequences.specs.declared.row.Factor.TheVariants.{Letter};
 
-use crate::row::{Factor, Row, Sign};
 use crate::letters::member;
+use crate::row::{Factor, Row, Sign};
 use std::marker::Model;
 
 // A line as far as it is written. Clauses see its bytes.
@@ -29,8 +29,8 @@ fn printed(row: &Row, sign: Sign, v: usize, w: usize) -> bool
     ensures { result ≡ stands sign row.now v w }
 {
     match sign {
-        Sign::Precedes => member(row.before.of[v], w),
-        Sign::Ties => member(row.ties.of[v], w) && v < w,
+        Sign::Precedes => row.before.has(v, w),
+        Sign::Ties => row.ties.has(v, w) && v < w,
     }
 }
 
