@@ -10,12 +10,13 @@ use Rattle.sequences.specs.Sequences.{TextCloses, less, factor, both, sequence, 
 use Rattle.sequences.specs.Walks.{Impossible, stay, SomeImpossible}
 use Rattle.sequences.specs.Walks as walks
 use Rattle.sequences.specs.declared.row.Factor.{Factor}
-use Rattle.sequences.specs.declared.row.Factor.TheVariants.{Less}
+use Rattle.sequences.specs.declared.row.Sign.TheVariants.{Precedes, Ties}
+use Rattle.sequences.specs.declared.row.Factor.TheVariants.{Pair}
 use Rattle.sequences.proofs.Closings.{one_impossible}
 use Rattle.examples.specs.Sequences.{SequenceExamples}
 
 circle : List Factor
-circle = Less 0 1 ∷ Less 1 2 ∷ Less 2 0 ∷ []
+circle = Pair Precedes 0 1 ∷ Pair Precedes 1 2 ∷ Pair Precedes 2 0 ∷ []
 
 closes : TextCloses (codes "**<ab<bc<ca") (circle ∷ [])
 unfolding circle

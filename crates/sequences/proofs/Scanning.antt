@@ -2,13 +2,11 @@
 -- Assumes nothing.
 use Rattle.std.proofs.Common.{◌≡◌, ℕ, ◌+◌, ◌-◌, ◌<◌, ◌≤◌, Bool, true, false, cond, not, ◌&&◌, T, eqb, leb, List, [], ◌∷◌, ◌++◌, length, get_or, take, set, Some, None, Option, sym, refl, ap, ◌∙◌, subst, ap₂, inl, inr, add-one, arith, leb→le, length-append, take-suc}
 use Rattle.std.proofs.lemmas.Bool.{cond_both, cases_lt, eqb-false}
-use Rattle.sequences.specs.Rows.{Fitting, absent, blank, entered, made, padded}
+use Rattle.sequences.specs.Rows.{Fitting, absent, blank, entered, padded}
 use Rattle.sequences.specs.Scans.{State, Keeps, Ready, after, advanced, begun, completed, is_letter, moved, reading_at, run, start, step, step_of, stepped}
 use Rattle.sequences.specs.declared.row.Factor.{Factor}
-use Rattle.sequences.specs.declared.row.Factor.TheVariants.{Letter}
+use Rattle.sequences.specs.declared.row.Factor.TheVariants.{Letter, Pair}
 use Rattle.sequences.specs.declared.row.Row.{Row}
-use Rattle.sequences.specs.declared.row.Sign.{Sign}
-use Rattle.sequences.specs.declared.row.Sign.TheVariants.{Precedes, Ties}
 use Rattle.sequences.specs.declared.scan.Reading.{Reading}
 use Rattle.sequences.specs.declared.scan.Step.{Step}
 use Rattle.sequences.specs.declared.scan.Wants.{Wants}
@@ -31,10 +29,6 @@ letter_low : (b : ℕ) → is_letter b ≡ true → b - 97 < 24
 letter_low b e =
     let k = and_out (leb 97 b) (leb b 120) (is_T _ e) in
     let l = leb→le b 120 k.1 in omega arith
-
-made_fits : (sign : Sign) (v w : ℕ) → v < 24 → w < 24 → (v ≡ w → ⊥) → Fitting (made sign v w)
-made_fits Precedes v w h k n = (h, k, n)
-made_fits Ties v w h k n = (h, k, n)
 
 onward_good : (p s : ℕ) (f : Factor) → Fitting f → Good p s (completed p s f)
 onward_good p s f h = go (eqb p 0) (eqb s 0)
@@ -65,7 +59,7 @@ step_good (Second sign v) p s b h =
     cond_both (is_letter b && not (eqb v (b - 97))) _ _ (Good p s)
     (λ e.
     let k = and_out (is_letter b) (not (eqb v (b - 97))) (is_T _ e) in
-    onward_good p s (made sign v (b - 97)) (made_fits sign v (b - 97) h (letter_low b (T_is _ k.0)) (eqb-false v (b - 97) (not_is _ k.1))))
+    onward_good p s (Pair sign v (b - 97)) (h, letter_low b (T_is _ k.0), eqb-false v (b - 97) (not_is _ k.1)))
     (λ e. nothing_good p s)
   where
     not_is : (c : Bool) → T (not c) → c ≡ false

@@ -3,10 +3,10 @@
 use Rattle.std.proofs.Common.{◌≡◌, ℕ, zero, suc, ◌+◌, ◌≤◌, Bool, true, false, cond, ◌&&◌, ltb, List, [], ◌∷◌, ◌++◌, map, length, sym, refl, ap, ◌∙◌, inl, inr, append_assoc, add-one, arith, length-append}
 use Rattle.std.proofs.lemmas.List.{map-append}
 use Rattle.std.proofs.lemmas.Bool.{cases_lt}
-use Rattle.sequences.specs.Rows.{listed, made, precedes, ties}
+use Rattle.sequences.specs.Rows.{listed, precedes, ties}
 use Rattle.sequences.specs.declared.row.Row.{Row}
 use Rattle.sequences.specs.declared.row.Factor.{Factor}
-use Rattle.sequences.specs.declared.row.Factor.TheVariants.{Letter, Less, Tie}
+use Rattle.sequences.specs.declared.row.Factor.TheVariants.{Letter, Pair}
 use Rattle.sequences.specs.declared.row.Sign.TheVariants.{Precedes, Ties}
 use Rattle.sequences.specs.Lines.{gap, grown, spell, spelt, rest, line_of, sifted, paired, stands, line, items}
 
@@ -88,8 +88,8 @@ rest_spelt acc h (f ∷ fs) =
 
 spell_long : (f : Factor) → suc zero ≤ length (spell f)
 spell_long (Letter v) = omega arith
-spell_long (Less v w) = omega arith
-spell_long (Tie v w) = omega arith
+spell_long (Pair Precedes v w) = omega arith
+spell_long (Pair Ties v w) = omega arith
 
 line_spelt : (fs : List Factor) → spelt [] fs ++ (10 ∷ []) ≡ line_of fs
 line_spelt [] = refl
@@ -101,16 +101,16 @@ module _ (r : Row) where
   with_letters acc = with_sifted acc Letter (λ v. listed r v) 24
 
   abbrev with_less : List ℕ → List ℕ
-  with_less acc = with_paired acc (made Precedes) (λ v w. stands Precedes r v w) 24
+  with_less acc = with_paired acc (Pair Precedes) (λ v w. stands Precedes r v w) 24
 
   abbrev with_ties : List ℕ → List ℕ
-  with_ties acc = with_paired acc (made Ties) (λ v w. stands Ties r v w) 24
+  with_ties acc = with_paired acc (Pair Ties) (λ v w. stands Ties r v w) 24
 
   whole : with_ties (with_less (with_letters [])) ++ 10 ∷ [] ≡ line r
   whole =
       ap (λ (l : List ℕ). l ++ (10 ∷ []))
-      (sym (spelt_append [] (map Letter (sifted 24 (λ v. listed r v))) (paired Less 24 (λ v w. precedes r v w) ++ paired Tie 24 (λ v w. ties r v w && ltb v w))
-      ∙ spelt_append (with_letters []) (paired Less 24 (λ v w. precedes r v w)) (paired Tie 24 (λ v w. ties r v w && ltb v w))))
+      (sym (spelt_append [] (map Letter (sifted 24 (λ v. listed r v))) (paired (Pair Precedes) 24 (λ v w. precedes r v w) ++ paired (Pair Ties) 24 (λ v w. ties r v w && ltb v w))
+      ∙ spelt_append (with_letters []) (paired (Pair Precedes) 24 (λ v w. precedes r v w)) (paired (Pair Ties) 24 (λ v w. ties r v w && ltb v w))))
       ∙ line_spelt (items r)
 
   pub line_ends : (a b c d : List ℕ) → a ≡ [] → b ≡ with_letters a → c ≡ with_less b → d ≡ with_ties c → d ++ 10 ∷ [] ≡ line r
@@ -126,8 +126,8 @@ module _ (r : Row) where
 
     pub less_fit : (a b : List ℕ) → a ≡ [] → b ≡ with_letters a → length (with_less b) ≤ 512
     less_fit a b e f =
-        omega (arith, ties_fit a b (with_less b) e f refl, spelt_longer (with_less b) (paired (made Ties) 24 (λ v w. stands Ties r v w)))
+        omega (arith, ties_fit a b (with_less b) e f refl, spelt_longer (with_less b) (paired (Pair Ties) 24 (λ v w. stands Ties r v w)))
 
     pub letters_fit : (a : List ℕ) → a ≡ [] → length (with_letters a) ≤ 512
     letters_fit a e =
-        omega (arith, less_fit a (with_letters a) e refl, spelt_longer (with_letters a) (paired (made Precedes) 24 (λ v w. stands Precedes r v w)))
+        omega (arith, less_fit a (with_letters a) e refl, spelt_longer (with_letters a) (paired (Pair Precedes) 24 (λ v w. stands Precedes r v w)))

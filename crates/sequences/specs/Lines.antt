@@ -9,7 +9,7 @@ use Rattle.sequences.specs.Walks.{Sound}
 use Rattle.sequences.specs.Sequences.{row_of}
 use Rattle.sequences.specs.declared.row.Row.{Row}
 use Rattle.sequences.specs.declared.row.Factor.{Factor}
-use Rattle.sequences.specs.declared.row.Factor.TheVariants.{Letter, Less, Tie}
+use Rattle.sequences.specs.declared.row.Factor.TheVariants.{Letter, Pair}
 use Rattle.sequences.specs.declared.row.Sign.{Sign}
 use Rattle.sequences.specs.declared.row.Sign.TheVariants.{Precedes, Ties}
 
@@ -27,12 +27,12 @@ paired mk (suc n) p = paired mk n p ++ map (mk n) (sifted 24 (p n))
 abbrev pub items : Row → List Factor
 items r =
     map Letter (sifted 24 (λ v. listed r v))
-    ++ (paired Less 24 (λ v w. precedes r v w) ++ paired Tie 24 (λ v w. ties r v w && nat_lt v w))
+    ++ (paired (Pair Precedes) 24 (λ v w. precedes r v w) ++ paired (Pair Ties) 24 (λ v w. ties r v w && nat_lt v w))
 
 abbrev pub spell : Factor → List ℕ
 spell (Letter v) = (97 + v) ∷ []
-spell (Less v w) = (97 + v) ∷ 60 ∷ (97 + w) ∷ []
-spell (Tie v w) = (97 + v) ∷ 61 ∷ (97 + w) ∷ []
+spell (Pair Precedes v w) = (97 + v) ∷ 60 ∷ (97 + w) ∷ []
+spell (Pair Ties v w) = (97 + v) ∷ 61 ∷ (97 + w) ∷ []
 
 -- one space before each further item, and byte 10 at the end
 abbrev pub rest : List Factor → List ℕ
@@ -73,8 +73,7 @@ front acc xs = acc ++ drop (length acc) xs
 -- the letters of an item are among the 24
 abbrev pub Lettered : Factor → Type 0
 Lettered (Letter v) = v < 24
-Lettered (Less v w) = (v < 24) × (w < 24)
-Lettered (Tie v w) = (v < 24) × (w < 24)
+Lettered (Pair sign v w) = (v < 24) × (w < 24)
 
 -- a pair of the sign is printed: a tie with the smaller letter first
 abbrev pub stands : Sign → Row → ℕ → ℕ → Bool

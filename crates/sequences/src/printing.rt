@@ -1,8 +1,8 @@
 // The line of a row.
 ghost use Rattle.std.specs.Prelude.{◌≡◌, ℕ, ◌+◌, ◌<◌, ◌≤◌, List, [], ◌∷◌, ◌++◌, length, map, take};
 ghost use Rattle.sequences.specs.Lines.{Lettered, front, gap, grown, line, paired, sifted, spelt, stands};
-ghost use Rattle.sequences.specs.Rows.{listed, made};
-ghost use Rattle.sequences.specs.declared.row.Factor.TheVariants.{Letter};
+ghost use Rattle.sequences.specs.Rows.{listed};
+ghost use Rattle.sequences.specs.declared.row.Factor.TheVariants.{Letter, Pair};
 
 use crate::letters::member;
 use crate::row::{Factor, Row, Sign};
@@ -84,8 +84,8 @@ impl Line {
         self.space();
         match item {
             Factor::Letter(v) => self.push(b'a' + v),
-            Factor::Less(v, w) => self.pair(b'<', v, w),
-            Factor::Tie(v, w) => self.pair(b'=', v, w),
+            Factor::Pair(Sign::Precedes, v, w) => self.pair(b'<', v, w),
+            Factor::Pair(Sign::Ties, v, w) => self.pair(b'=', v, w),
         }
     }
 
@@ -103,13 +103,13 @@ impl Line {
 
     // Writes the row's pairs of one sign, by first and second letter.
     fn put_pairs(&mut self, row: &Row, sign: Sign)
-        requires { length (spelt self.old (paired (made sign) 24 (λ v w. stands sign row.now v w))) ≤ 512 }
-        ensures { self.new ≡ spelt self.old (paired (made sign) 24 (λ v w. stands sign row.now v w)) }
+        requires { length (spelt self.old (paired (Pair sign) 24 (λ v w. stands sign row.now v w))) ≤ 512 }
+        ensures { self.new ≡ spelt self.old (paired (Pair sign) 24 (λ v w. stands sign row.now v w)) }
     {
         for v in 0..24 {
             for w in 0..24 {
                 if printed(row, sign, v, w) {
-                    self.put(sign.of(v as u8, w as u8));
+                    self.put(Factor::Pair(sign, v as u8, w as u8));
                 }
             }
         }

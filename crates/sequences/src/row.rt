@@ -1,6 +1,6 @@
 // The row of a sequence: its letters and pairs, as sets of letters.
 ghost use Rattle.std.specs.Prelude.{◌≡◌};
-ghost use Rattle.sequences.specs.Rows.{Fitting, blank, entered, made};
+ghost use Rattle.sequences.specs.Rows.{Fitting, blank, entered};
 
 use crate::letters::LetterSets;
 
@@ -12,14 +12,6 @@ pub struct Row {
     pub ties: LetterSets,
 }
 
-// A letter, or a pair of two: `Less` is written with '<' and `Tie` with '='.
-#[derive(Clone, Copy)]
-pub enum Factor {
-    Letter(u8),
-    Less(u8, u8),
-    Tie(u8, u8),
-}
-
 // What a pair is written with: '<' or '='.
 #[derive(Clone, Copy)]
 pub enum Sign {
@@ -27,16 +19,11 @@ pub enum Sign {
     Ties,
 }
 
-impl Sign {
-    // The pair of the two letters.
-    pub fn of(self, v: u8, w: u8) -> Factor
-        ensures { result ≡ made self v w }
-    {
-        match self {
-            Sign::Precedes => Factor::Less(v, w),
-            Sign::Ties => Factor::Tie(v, w),
-        }
-    }
+// A letter, or a pair of two.
+#[derive(Clone, Copy)]
+pub enum Factor {
+    Letter(u8),
+    Pair(Sign, u8, u8),
 }
 
 impl Row {
@@ -58,8 +45,8 @@ impl Row {
     {
         match factor {
             Factor::Letter(v) => self.letters |= 1 << v,
-            Factor::Less(v, w) => self.before.add(v, w),
-            Factor::Tie(v, w) => {
+            Factor::Pair(Sign::Precedes, v, w) => self.before.add(v, w),
+            Factor::Pair(Sign::Ties, v, w) => {
                 self.ties.add(v, w);
                 self.ties.add(w, v);
             }

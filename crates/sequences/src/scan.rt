@@ -177,7 +177,7 @@ impl Reading {
         ensures { result ≡ step_of (Second sign v) self.parts self.sums byte }
     {
         if is_letter(byte) && byte - b'a' != v {
-            self.completes(sign.of(v, byte - b'a'))
+            self.completes(Factor::Pair(sign, v, byte - b'a'))
         } else {
             self.moves(Wants::Nothing)
         }
