@@ -107,8 +107,3 @@ module _ {D : Type 0} (K : Kind D) (d : ℕ → D) (p : ℕ → Bool) where
 
   pub latest_by : (r : Option D) (n : ℕ) → r ≡ last (map d (filter p (range_with_len 0 n))) → r ≡ latest K d p n
   latest_by r n e = e ∙ ap (λ (l : List ℕ). last (map d (filter p l))) (sym (map-id (range_with_len 0 n))) ∙ latest_is n
-
-module _ {D : Type 0} (K : Kind D) (ds : List D) where
-  -- what is read at a place is the date of that event
-  pub read_at : (i : ℕ) (x : D) → i < length ds → x ≡ get_or ds i x → x ≡ dating_of K ds i
-  read_at i x h e = e ∙ get_or_default ds i x K.never h

@@ -5,7 +5,7 @@ ghost use Rattle.sequences.specs.Masks.{added, has, linked};
 use std::array;
 
 // The letter v is in the set.
-pub fn member(set: u32, v: usize) -> bool
+pub fn member(set: u32, v: u8) -> bool
     requires { v < 24 }
     ensures { result ≡ has set v }
 {
@@ -27,11 +27,11 @@ impl LetterSets {
     }
 
     // The letter w is in the set of v.
-    pub fn has(&self, v: usize, w: usize) -> bool
+    pub fn has(&self, v: u8, w: u8) -> bool
         requires { (v < 24) × (w < 24) }
         ensures { result ≡ linked self.now.of v w }
     {
-        member(self.of[v], w)
+        member(self.of[usize::from(v)], w)
     }
 
     // The letter w goes into the set of v.
@@ -39,7 +39,7 @@ impl LetterSets {
         requires { (v < 24) × (w < 24) }
         ensures { self.new.of ≡ added v w self.old.of }
     {
-        self.of[v as usize] |= 1 << w;
+        self.of[usize::from(v)] |= 1 << w;
     }
 
     // Of each letter, the letters of either set.

@@ -24,7 +24,7 @@ impl Model for Line {
 }
 
 // The pair is printed: a tie with the smaller letter first.
-fn printed(row: &Row, sign: Sign, v: usize, w: usize) -> bool
+fn printed(row: &Row, sign: Sign, v: u8, w: u8) -> bool
     requires { (v < 24) × (w < 24) }
     ensures { result ≡ stands sign row.now v w }
 {
@@ -96,7 +96,7 @@ impl Line {
     {
         for v in 0..24 {
             if member(row.letters, v) {
-                self.put(Factor::Letter(v as u8));
+                self.put(Factor::Letter(v));
             }
         }
     }
@@ -109,7 +109,7 @@ impl Line {
         for v in 0..24 {
             for w in 0..24 {
                 if printed(row, sign, v, w) {
-                    self.put(Factor::Pair(sign, v as u8, w as u8));
+                    self.put(Factor::Pair(sign, v, w));
                 }
             }
         }

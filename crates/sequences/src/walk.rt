@@ -10,12 +10,12 @@ use crate::row::Row;
 // Of each letter, the letters that it links to.
 impl LetterSets {
     // The links, and those by way of k.
-    fn passing(self, k: usize) -> LetterSets
+    fn passing(self, k: u8) -> LetterSets
         requires { k < 24 }
         ensures { (v w : ℕ) → linked result.of v w ≡ via k (linked self.of) v w }
     {
         let mut out = self;
-        let on = self.of[k];
+        let on = self.of[usize::from(k)];
         for set in &mut out.of {
             if member(*set, k) {
                 *set |= on;
@@ -39,7 +39,7 @@ impl LetterSets {
 
 impl Row {
     // One can come back to v from a letter that it precedes.
-    fn returns_to(&self, reach: &LetterSets, v: usize) -> bool
+    fn returns_to(&self, reach: &LetterSets, v: u8) -> bool
         requires { v < 24 }
         ensures { result ≡ any 24 (λ w. precedes self.now v w && linked reach.now.of w v) }
     {

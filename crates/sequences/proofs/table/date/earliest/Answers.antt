@@ -7,13 +7,13 @@ pub loop-row-init : goal.loop-row-init
 loop-row-init g c =
     let rows = c.args.rows.now in
     let e : c.into_iter-row-iterator.result.iter.rest.now ≡ rows = cc in
-    earliest_at_first g.D.Date.kind (dating_of g.D.Date.kind c.args.dating.now) _ rows _ e c.never-earliest.ensures
+    earliest_at_first g.D.Date.kind (dating_of g.D.Date.kind c.args.dating.now.dates.now) _ rows _ e c.never-earliest.ensures
 
 pub loop-row-preserved : goal.loop-row-preserved
 loop-row-preserved g c =
-    earliest_with_one g.D.Date.kind (dating_of g.D.Date.kind c.args.dating.now) _ c.next.new.self.iter.rest.now c.in-Some.row.now _ _ _ _
-    c.in-Some.ensures.steps c.date.ensures c.earlier_of-earliest.ensures c.loop-row.invariant
+    earliest_with_one g.D.Date.kind (dating_of g.D.Date.kind c.args.dating.now.dates.now) _ c.next.new.self.iter.rest.now c.in-Some.row.now _ _ _ _
+    c.in-Some.ensures.steps c.date.ensures c.earlier-earliest.ensures c.loop-row.invariant
 
 pub returns : goal.returns
 returns g c =
-    earliest_at_last g.D.Date.kind (dating_of g.D.Date.kind c.args.dating.now) _ _ _ c.in-None.ensures.steps.0 c.loop-row.invariant
+    earliest_at_last g.D.Date.kind (dating_of g.D.Date.kind c.args.dating.now.dates.now) _ _ _ c.in-None.ensures.steps.0 c.loop-row.invariant
