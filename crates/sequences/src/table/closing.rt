@@ -1,5 +1,5 @@
 // Closes a text into a table.
-ghost use Rattle.std.specs.Prelude.{◌≡◌, [], ◌∷◌, All, Any, Decides};
+ghost use Rattle.std.specs.Prelude.{◌≡◌, ◌≤◌, [], ◌∷◌, All, Any, Decides};
 ghost use Rattle.algebra.specs.Texts.{never_byte};
 ghost use Rattle.sequences.specs.Closing.{Closed};
 ghost use Rattle.sequences.specs.Tables.{Holds};
@@ -16,6 +16,13 @@ fn is_never(text: &[u8]) -> bool
     ensures { Decides result (text.now ≡ never_byte ∷ []) }
 {
     matches!(text, [b'N'])
+}
+
+// Whether a table has room for so many rows.
+fn has_room(count: usize) -> bool
+    ensures { Decides result (count ≤ 64) }
+{
+    count <= 64
 }
 
 // Whether one of the rows is impossible.
@@ -41,7 +48,7 @@ impl Table {
         if !scan.reading.ended() {
             return Err(CloseRefusal::NoSum);
         }
-        if scan.count > 64 {
+        if !has_room(scan.count) {
             return Err(CloseRefusal::TooMany);
         }
         if any_impossible(&scan.rows[..scan.count]) {

@@ -1,5 +1,5 @@
 // What a table is made from, and what it answers.
-ghost use Rattle.std.specs.Prelude.{◌≡◌, ℕ, ◌↔◌, [], length, All, IsTrue, Result, OnErr, OnOk};
+ghost use Rattle.std.specs.Prelude.{◌≡◌, ℕ, ◌≤◌, ◌↔◌, [], length, All, Decides, IsTrue, Result, OnErr, OnOk};
 ghost use Rattle.sequences.specs.Closing.{Closed, KeepsDates, RefusedExactly, RefusedNowhere};
 ghost use Rattle.sequences.specs.Dates.{HappensByTicks};
 ghost use Rattle.sequences.specs.Tables.{Holds, IsTable, LineAnswered, TellsRow};
@@ -10,6 +10,13 @@ use super::Table;
 use crate::printing::Line;
 use crate::refusals::{CloseRefusal, LineRefusal};
 use crate::row::Row;
+
+// Whether a line of any length fits.
+fn has_room(buffer: &[u8]) -> bool
+    ensures { Decides result (512 ≤ length buffer.now) }
+{
+    buffer.len() >= 512
+}
 
 impl Table {
     // A table with no rows.
@@ -59,7 +66,7 @@ impl Table {
         ensures left { OnErr result (buffer.new ≡ buffer.old) }
         ensures tells { OnOk result (TellsRow self.now row) }
     {
-        if buffer.len() < 512 {
+        if !has_room(buffer) {
             return Err(LineRefusal::SmallBuffer);
         }
         if row >= self.len {

@@ -67,24 +67,25 @@ module _ (bs : List ℕ) (is : IsText bs) (scan : Scan) (keeps : Keeps (run star
       stores : Stored (record { rows = scan.rows; len = scan.count })
       stores = record { low = few; filled = sum.kept ∙ ap (padded 64) (sym holds.rows); table = closed_table bs _ grants holds }
 
-pub returns-then-scan-gt64 : goal.returns-then-scan-gt64
-returns-then-scan-gt64 c =
+pub returns-then-not-has_room : goal.returns-then-not-has_room
+returns-then-not-has_room c =
     let bs = c.args.text.now in
     let f = sum bs (c.is_text.ensures.0 c.if-not-is_text.false) c.scan_sum-scan.result c.scan_sum-scan.ensures (sym c.ended.ensures ∙ c.if-not-ended.false) in
-    too_many bs f.sequences f.closes (omega (arith, f.counted))
+    let past : c.scan_sum-scan.result.count ≤ 64 → ⊥ = λ h. both_ways _ c.if-not-has_room.true (c.has_room.ensures.1 h) in
+    too_many bs f.sequences f.closes (omega (arith, past, f.counted))
 
 pub any_impossible-requires : goal.any_impossible-requires
 any_impossible-requires c =
-    sound c.args.text.now (c.is_text.ensures.0 c.if-not-is_text.false) c.scan_sum-scan.result c.scan_sum-scan.ensures (sym c.ended.ensures ∙ c.if-not-ended.false) c.if-scan-gt64.false
+    sound c.args.text.now (c.is_text.ensures.0 c.if-not-is_text.false) c.scan_sum-scan.result c.scan_sum-scan.ensures (sym c.ended.ensures ∙ c.if-not-ended.false) (c.has_room.ensures.0 c.if-not-has_room.false)
 
 pub returns-then-any_impossible : goal.returns-then-any_impossible
 returns-then-any_impossible c =
-    refused c.args.text.now (c.is_text.ensures.0 c.if-not-is_text.false) c.scan_sum-scan.result c.scan_sum-scan.ensures (sym c.ended.ensures ∙ c.if-not-ended.false) c.if-scan-gt64.false
+    refused c.args.text.now (c.is_text.ensures.0 c.if-not-is_text.false) c.scan_sum-scan.result c.scan_sum-scan.ensures (sym c.ended.ensures ∙ c.if-not-ended.false) (c.has_room.ensures.0 c.if-not-has_room.false)
     (c.any_impossible.ensures.0 c.if-any_impossible.true)
 
 pub invariant_of-result : goal.invariant_of-result
 invariant_of-result c =
-    stores c.args.text.now (c.is_text.ensures.0 c.if-not-is_text.false) c.scan_sum-scan.result c.scan_sum-scan.ensures (sym c.ended.ensures ∙ c.if-not-ended.false) c.if-scan-gt64.false
+    stores c.args.text.now (c.is_text.ensures.0 c.if-not-is_text.false) c.scan_sum-scan.result c.scan_sum-scan.ensures (sym c.ended.ensures ∙ c.if-not-ended.false) (c.has_room.ensures.0 c.if-not-has_room.false)
     (λ i. both_ways _ c.if-any_impossible.false (c.any_impossible.ensures.1 i))
 
 pub returns : goal.returns
@@ -93,6 +94,6 @@ returns c =
     let is = c.is_text.ensures.0 c.if-not-is_text.false in
     let scan = c.scan_sum-scan.result in
     let ended = sym c.ended.ensures ∙ c.if-not-ended.false in (
-      grants bs is scan c.scan_sum-scan.ensures ended c.if-scan-gt64.false (λ i. both_ways _ c.if-any_impossible.false (c.any_impossible.ensures.1 i)),
-      holds bs is scan c.scan_sum-scan.ensures ended c.if-scan-gt64.false,
+      grants bs is scan c.scan_sum-scan.ensures ended (c.has_room.ensures.0 c.if-not-has_room.false) (λ i. both_ways _ c.if-any_impossible.false (c.any_impossible.ensures.1 i)),
+      holds bs is scan c.scan_sum-scan.ensures ended (c.has_room.ensures.0 c.if-not-has_room.false),
     )
