@@ -1,6 +1,6 @@
 -- Whether a set has a letter, the latest date, and the date at a place.
 -- Assumes nothing.
-use Rattle.std.proofs.Common.{◌≡◌, ℕ, zero, suc, ◌+◌, ◌-◌, ◌/◌, ◌%◌, ◌^◌, ◌<◌, ◌≤◌, Bool, true, false, cond, not, T, eqb, List, [], ◌∷◌, ◌++◌, map, length, get_or, Some, Option, bit_and, sym, refl, ap, ◌∙◌, subst, inl, inr, add-one, zero-add, arith, eqb→eq, T_not}
+use Rattle.std.proofs.Common.{◌≡◌, ℕ, zero, suc, ◌+◌, ◌-◌, ◌/◌, ◌%◌, ◌^◌, ◌<◌, ◌≤◌, Bool, true, false, cond, not, T, eqb, List, [], ◌∷◌, ◌++◌, map, Some, Option, bit_and, sym, refl, ap, ◌∙◌, subst, inl, inr, add-one, zero-add, arith, eqb→eq, T_not}
 use mathlib.Core.List.{map-id, map-append, append-nil}
 use native.Mathlib.Nat.{div-eq_of_lt}
 use Rattle.std.specs.List.{filter, range_with_len, reduce}
@@ -9,10 +9,9 @@ use Rattle.std.proofs.lemmas.Nat.{and_mask, field_of, pow_below}
 use Rattle.std.proofs.lemmas.List.FromFn.{filter_of_map_range_with_len_more}
 use Rattle.std.proofs.lemmas.List.Sums.{fold-append}
 use lib.Dec.{not_T}
-use Rattle.std.proofs.lemmas.List.{get_or_default}
 use Rattle.std.proofs.lemmas.Bool.{cases_Bool, cases_lt, ne_eqb}
 use Rattle.algebra.specs.Kinds.{Kind}
-use Rattle.algebra.specs.Terms.{dating_of, joined}
+use Rattle.algebra.specs.Terms.{joined}
 use Rattle.algebra.specs.declared.Operator.TheVariants.{And}
 use Rattle.algebra.proofs.Tests.{bool_ext}
 use Rattle.sequences.specs.Dates.{later, latest}

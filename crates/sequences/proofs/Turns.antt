@@ -81,8 +81,9 @@ module _ (ms out : List ℕ) (k i : ℕ) (h : i < 24) (p : Passed ms k out i) wh
   as_before : (b : Bool) → has (get_or out i 0) k ≡ b → linked ms i k ≡ b
   as_before b e = subst (λ (n : ℕ). has n k ≡ b) same e
 
-  pub passed_with : has (get_or out i 0) k ≡ true → Passed ms k (set out i (bit_or (get_or out i 0) (get_or ms k 0))) (i + 1)
-  passed_with e = passed_to _ (λ w. with_k ms (get_or out i 0) k i w same (as_before true e))
+  pub passed_with : (j : ℕ) → j ≡ k → has (get_or out i 0) k ≡ true → Passed ms k (set out i (bit_or (get_or out i 0) (get_or ms j 0))) (i + 1)
+  passed_with j q e =
+      passed_to _ (λ w. ap (λ (n : ℕ). has (bit_or (get_or out i 0) (get_or ms n 0)) w) q ∙ with_k ms (get_or out i 0) k i w same (as_before true e))
 
   pub passed_without : has (get_or out i 0) k ≡ false → Passed ms k (set out i (get_or out i 0)) (i + 1)
   passed_without e = passed_to _ (λ w. ap (λ (n : ℕ). has n w) same ∙ sym (via_without ms k i w (as_before false e)))
