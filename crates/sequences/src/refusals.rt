@@ -1,7 +1,5 @@
 // Why a text is not closed, a table not dated and a line not printed.
-ghost use Rattle.std.specs.Prelude.{◌≡◌};
-ghost use Rattle.sequences.specs.Codes.{close_code, line_code, table_code};
-
+use algebra::Refusal;
 use std::error::Error;
 use std::fmt;
 
@@ -14,11 +12,14 @@ pub enum CloseRefusal {
     ImpossibleSequence,
 }
 
-impl CloseRefusal {
-    // The number of the refusal.
-    pub fn code(self) -> u8
-        ensures { result ≡ close_code self }
-    {
+impl Refusal for CloseRefusal {
+    ghost use Rattle.sequences.specs.Codes.{close_code, close_codes_differ};
+
+    ghost number = { close_code };
+
+    ghost distinct = { close_codes_differ };
+
+    fn code(self) -> u8 {
         match self {
             CloseRefusal::NoTree => 21,
             CloseRefusal::NoSum => 22,
@@ -47,11 +48,14 @@ pub enum TableRefusal {
     NoDating,
 }
 
-impl TableRefusal {
-    // The number of the refusal.
-    pub fn code(self) -> u8
-        ensures { result ≡ table_code self }
-    {
+impl Refusal for TableRefusal {
+    ghost use Rattle.sequences.specs.Codes.{table_code, table_codes_differ};
+
+    ghost number = { table_code };
+
+    ghost distinct = { table_codes_differ };
+
+    fn code(self) -> u8 {
         match self {
             TableRefusal::NoDating => 52,
         }
@@ -75,11 +79,14 @@ pub enum LineRefusal {
     NoRow,
 }
 
-impl LineRefusal {
-    // The number of the refusal.
-    pub fn code(self) -> u8
-        ensures { result ≡ line_code self }
-    {
+impl Refusal for LineRefusal {
+    ghost use Rattle.sequences.specs.Codes.{line_code, line_codes_differ};
+
+    ghost number = { line_code };
+
+    ghost distinct = { line_codes_differ };
+
+    fn code(self) -> u8 {
         match self {
             LineRefusal::SmallBuffer => 54,
             LineRefusal::NoRow => 55,

@@ -42,7 +42,7 @@ pub struct Scan {
 fn is_letter(byte: u8) -> bool
     ensures { result ≡ is_letter byte }
 {
-    byte >= b'a' && byte <= b'x'
+    matches!(byte, b'a'..=b'x')
 }
 
 impl Reading {
@@ -60,26 +60,22 @@ impl Reading {
     fn onward(self) -> Reading
         ensures { result ≡ onward self.parts self.sums }
     {
-        if self.parts == 0 {
-            if self.sums == 0 {
-                Reading {
-                    wants: Wants::End,
-                    parts: 0,
-                    sums: 0,
-                }
-            } else {
-                Reading {
-                    wants: Wants::Sum,
-                    parts: 0,
-                    sums: self.sums - 1,
-                }
-            }
-        } else {
-            Reading {
+        match (self.parts, self.sums) {
+            (0, 0) => Reading {
+                wants: Wants::End,
+                parts: 0,
+                sums: 0,
+            },
+            (0, sums) => Reading {
+                wants: Wants::Sum,
+                parts: 0,
+                sums: sums - 1,
+            },
+            (parts, sums) => Reading {
                 wants: Wants::Part,
-                parts: self.parts - 1,
-                sums: self.sums,
-            }
+                parts: parts - 1,
+                sums,
+            },
         }
     }
 
@@ -102,11 +98,7 @@ impl Reading {
         ensures { result ≡ moved wants self.parts self.sums }
     {
         Step {
-            next: Reading {
-                wants,
-                parts: self.parts,
-                sums: self.sums,
-            },
+            next: Reading { wants, ..self },
             factor: None,
         }
     }
@@ -131,7 +123,7 @@ impl Reading {
                 next: Reading {
                     wants: Wants::Part,
                     parts: self.parts + 1,
-                    sums: self.sums,
+                    ..self
                 },
                 factor: None,
             },
@@ -151,8 +143,8 @@ impl Reading {
             Step {
                 next: Reading {
                     wants: Wants::Sum,
-                    parts: self.parts,
                     sums: self.sums + 1,
+                    ..self
                 },
                 factor: None,
             }
@@ -193,8 +185,7 @@ impl Reading {
             Wants::Part => self.begins(byte),
             Wants::First(sign) => self.first(sign, byte),
             Wants::Second(sign, v) => self.second(sign, v, byte),
-            Wants::End => self.moves(Wants::Nothing),
-            Wants::Nothing => self.moves(Wants::Nothing),
+            Wants::End | Wants::Nothing => self.moves(Wants::Nothing),
         }
     }
 }
