@@ -1,6 +1,6 @@
 -- A closing, a date and a line have one answer only.
 -- Assumes nothing.
-use Rattle.std.proofs.Common.{◌≡◌, ℕ, List, length, Result, sym, refl, ◌∙◌, arith}
+use Rattle.std.proofs.Common.{◌≡◌, ℕ, List, length, Result, sym, refl, ◌∙◌}
 use Rattle.algebra.specs.Kinds.{Kind}
 use Rattle.algebra.specs.Terms.{dating_of}
 use Rattle.algebra.proofs.Refusals.{one_answer}
@@ -10,11 +10,8 @@ use Rattle.sequences.specs.Dates.{table_date}
 use Rattle.sequences.specs.Tables.{DateAsks, LineAnswered, LineAsks, Lined, TableDated}
 use Rattle.sequences.specs.declared.row.Row.{Row}
 use Rattle.sequences.specs.declared.refusals.CloseRefusal.{CloseRefusal}
-use Rattle.sequences.specs.declared.refusals.CloseRefusal.TheVariants.{NoTree, NoSum, TooMany, ImpossibleSequence}
 use Rattle.sequences.specs.declared.refusals.LineRefusal.{LineRefusal}
-use Rattle.sequences.specs.declared.refusals.LineRefusal.TheVariants.{SmallBuffer, NoRow}
 use Rattle.sequences.specs.declared.refusals.TableRefusal.{TableRefusal}
-use Rattle.sequences.specs.declared.refusals.TableRefusal.TheVariants.{NoDating}
 
 pub one_closing : (bs : List ℕ) (P : Unit {0} → Type 0) (r s : Result (Unit {0}) CloseRefusal) → Closed bs P r → Closed bs P s → s ≡ r
 one_closing bs P r s a b = one_answer close_code (CloseAsks bs) P close_codes_differ (λ all x y p q. refl) s r b a
