@@ -8,7 +8,9 @@ use Rattle.std.specs.Fn.{Called}
 use Rattle.std.specs.Iterator.{ChecksAll, ChecksAny, Drains, ReducesItems}
 use Rattle.std.specs.List.{range_with_len, reduce, AllWithin, FoldsTo, HoldsAt}
 use Rattle.std.specs.Option.{MatchOption}
-use Rattle.std.proofs.lemmas.Iterator.{YieldsList, cases_from_all, cases_from_any}
+use Rattle.std.specs.declared.ops.Range.{Range}
+use Rattle.std.proofs.iter.Yields.{nat_range_steps}
+use Rattle.std.proofs.lemmas.Iterator.{YieldsList, YieldsList-from_range, cases_from_all, cases_from_any}
 use Rattle.std.proofs.lemmas.Iterator.Consumers.{reduce_from_yields_List}
 use Rattle.std.proofs.lemmas.Bool.{cases_eq}
 use Rattle.std.proofs.lemmas.List.FromFn.{length-range_with_len, get_or-range_with_len}
@@ -39,16 +41,17 @@ module _ (p : ℕ → Bool) where
   any_is true h = let k = some true h in sym (T_is (any 24 p) (any_in 24 p k.0 k.1 (is_T (p k.0) k.2)))
   any_is false h = sym (not_T_is (any 24 p) (λ t. let k = any_out 24 p t in T_not_false (p k.0) (each false h k.0 k.1) k.2))
 
-module _ {S F : Type 0} {steps : S → Option ℕ → S → Type 0} {g : Mut F (ℕ × Unit {0}) Bool} {s : S} (u : S) (f : F) (r : Bool) (p : ℕ → Bool)
-    (letters : YieldsList steps (λ x. x) s (range_with_len 0 24)) (computes : (x : ℕ) (b : Bool) (q : F) → Called g f (x, tt) b q → (q ≡ f) × (b ≡ p x)) where
-  pub all_over : ChecksAll steps g s f r u → r ≡ all 24 p
-  all_over ran =
-      all_is p r (cases_from_all u f r (λ x. p x ≡ true) (λ x. p x ≡ false) ran letters
+-- a closure that computes p, at the letters in turn
+module _ {F : Type 0} {g : Mut F (ℕ × Unit {0}) Bool} (u : Range ℕ) (f : F) (r : Bool) (p : ℕ → Bool)
+    (computes : (x : ℕ) (b : Bool) (q : F) → Called g f (x, tt) b q → (q ≡ f) × (b ≡ p x)) where
+  pub all_letters : ChecksAll nat_range_steps g (record { start = 0; end = 24 }) f r u → r ≡ all 24 p
+  all_letters ran =
+      all_is p r (cases_from_all u f r (λ x. p x ≡ true) (λ x. p x ≡ false) ran (YieldsList-from_range 0 24 24 refl (omega arith))
       (λ x q k. let h = computes x true q k in (h.0, sym h.1)) (λ x q k. sym (computes x false q k).1))
 
-  pub any_over : ChecksAny steps g s f r u → r ≡ any 24 p
-  any_over ran =
-      any_is p r (cases_from_any u f r (λ x. p x ≡ true) (λ x. p x ≡ false) ran letters
+  pub any_letter : ChecksAny nat_range_steps g (record { start = 0; end = 24 }) f r u → r ≡ any 24 p
+  any_letter ran =
+      any_is p r (cases_from_any u f r (λ x. p x ≡ true) (λ x. p x ≡ false) ran (YieldsList-from_range 0 24 24 refl (omega arith))
       (λ x q k. sym (computes x true q k).1) (λ x q k. let h = computes x false q k in (h.0, sym h.1)))
 
 -- what a closure made at each number below n

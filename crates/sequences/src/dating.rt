@@ -1,24 +1,13 @@
 // The date of a row under a dating.
 ghost use Rattle.std.specs.Prelude.{◌≡◌, ◌<◌};
 ghost use Rattle.algebra.specs.Terms.{dating_of};
-ghost use Rattle.sequences.specs.Masks.{has};
 ghost use Rattle.sequences.specs.Dates.{counts, latest, meets, pair_meets, row_date};
-ghost use Rattle.sequences.specs.Walks.{all, any};
+ghost use Rattle.sequences.specs.Walks.{all};
 
 use crate::letters::member;
 use crate::row::Row;
 use dates::Date;
 use texts::dating::Dating;
-
-// The bits of the 24 letters.
-const ALL_LETTERS: u32 = 0xff_ffff;
-
-// Whether any of the 24 letters is in the set.
-fn any_of(set: u32) -> bool
-    ensures { result ≡ any 24 (λ w. has set w) }
-{
-    set & ALL_LETTERS != 0
-}
 
 impl Row {
     // The letter counts for the date: it is one of the row's letters, or the left letter of a pair.
@@ -26,9 +15,7 @@ impl Row {
         requires { v < 24 }
         ensures { result ≡ counts self.now v }
     {
-        member(self.letters, v)
-            || any_of(self.before.of[usize::from(v)])
-            || any_of(self.ties.of[usize::from(v)])
+        member(self.letters, v) || self.before.has_any(v) || self.ties.has_any(v)
     }
 
     // The pairs of v and w meet their operators' tests.

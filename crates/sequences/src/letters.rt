@@ -1,10 +1,15 @@
 // Sets of the 24 letters, as the bits of numbers, and of each letter such a set.
 ghost use Rattle.std.specs.Prelude.{◌≡◌, ℕ, ◌<◌, ◌||◌, replicate};
 ghost use Rattle.sequences.specs.Masks.{added, has, linked};
+ghost use Rattle.sequences.specs.Walks.{any};
 
 use std::array;
 
-// The letter v is in the set.
+// The bits of the 24 letters.
+const ALL_LETTERS: u32 = 0xff_ffff;
+
+// The letter v is in the set. A letter is a number below 24 and has no type of its own: loops take it from 0..24, which
+// says so.
 pub fn member(set: u32, v: u8) -> bool
     requires { v < 24 }
     ensures { result ≡ has set v }
@@ -32,6 +37,14 @@ impl LetterSets {
         ensures { result ≡ linked self.now.of v w }
     {
         member(self.of[usize::from(v)], w)
+    }
+
+    // Whether any letter is in the set of v.
+    pub fn has_any(&self, v: u8) -> bool
+        requires { v < 24 }
+        ensures { result ≡ any 24 (λ w. linked self.now.of v w) }
+    {
+        self.of[usize::from(v)] & ALL_LETTERS != 0
     }
 
     // The letter w goes into the set of v.

@@ -46,7 +46,8 @@ impl Row {
         (0..24).any(|w| self.before.has(v, w) && reach.has(w, v))
     }
 
-    // One can walk from a letter back to itself along '<' and '=', using at least one '<'.
+    // One can walk from a letter back to itself along '<' and '=', using at least one '<'. That the row is sound is asked
+    // here alone, and a table keeps it for its rows: no other method needs it.
     pub fn impossible(&self) -> bool
         requires { Sound self.now }
         ensures yes { T result → Impossible self.now }

@@ -9,9 +9,8 @@ pub loop-set-preserved : goal.loop-set-preserved
 loop-set-preserved c =
     let P : List ℕ → Type 0 = λ x. Passed c.args.self.of c.args.k x (c.loop-set.set-index + 1) in
     let low = c.loop-set-test.true in
-    let on : c.from.result ≡ c.args.k = search rules in
     elim c.if-member.branch [
-      | then-member w ↦ subst P (sym w.set-items-is) (passed_with c.args.self.of c.loop-set.set-items _ _ low c.loop-set.invariant c.from.result on (sym w.if-member.ensures))
+      | then-member w ↦ subst P (sym w.set-items-is) (passed_with c.args.self.of c.loop-set.set-items _ _ low c.loop-set.invariant c.from.result c.from.ensures (sym w.if-member.ensures))
       | else-member w ↦ subst P (sym w.set-items-is) (passed_without c.args.self.of c.loop-set.set-items _ _ low c.loop-set.invariant (sym w.if-member.ensures))
     ]
 

@@ -1,11 +1,10 @@
-use Rattle.std.proofs.Common.{◌&&◌, T, refl, subst, arith, rules}
+use Rattle.std.proofs.Common.{◌&&◌, T, subst, rules}
 use borrow.Author.Tests.{tests}
-use Rattle.std.proofs.lemmas.Iterator.{YieldsList-from_range}
 use Rattle.sequences.specs.Masks.{linked}
 use Rattle.sequences.specs.Rows.{precedes}
 use Rattle.sequences.specs.Walks.{any, Closes}
 use Rattle.sequences.proofs.Closure.{closes_like}
-use Rattle.sequences.proofs.Ranges.{any_over}
+use Rattle.sequences.proofs.Ranges.{any_letter}
 use Rattle.sequences.proofs.Returns.{weak, weak_low, decides}
 use Rattle.sequences.proofs.row.Row.impossible.Goals as goal
 
@@ -18,5 +17,5 @@ returns c =
     let g = linked c.closed-reach.result.of in
     let k : Closes (weak r) g = closes_like _ (weak r) _ c.union.ensures c.closed-reach.ensures in
     let d = decides r g c.requires k _
-    (any_over _ _ _ (λ v. any 24 (λ w. precedes r v w && g w v)) (YieldsList-from_range 0 24 24 refl (omega arith)) (λ x b q k. search (rules, tests)) c.any.ensures.ran) in
+    (any_letter _ _ _ (λ v. any 24 (λ w. precedes r v w && g w v)) (λ x b q k. search (rules, tests)) c.any.ensures.ran) in
     record { yes = d.0; no = d.1 }
