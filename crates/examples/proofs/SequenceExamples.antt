@@ -10,7 +10,7 @@ use Rattle.sequences.specs.Sequences.{TextCloses, less, factor, both, sequence, 
 use Rattle.sequences.specs.Walks.{Impossible, stay, SomeImpossible}
 use Rattle.sequences.specs.Walks as walks
 use Rattle.sequences.specs.declared.row.Factor.{Factor}
-use Rattle.sequences.specs.declared.row.Sign.TheVariants.{Precedes, Ties}
+use Rattle.sequences.specs.declared.row.Sign.TheVariants.{Precedes}
 use Rattle.sequences.specs.declared.row.Factor.TheVariants.{Pair}
 use Rattle.sequences.proofs.Closings.{one_impossible}
 use Rattle.examples.specs.Sequences.{SequenceExamples}
