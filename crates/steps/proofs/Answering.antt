@@ -7,7 +7,6 @@ use Rattle.algebra.specs.Terms.{Term}
 use Rattle.algebra.specs.Texts.{Whole}
 use Rattle.algebra.specs.Rules.{has}
 use Rattle.algebra.specs.declared.Variable.{Variable}
-use Rattle.algebra.specs.declared.Variable.TheVariants.{X, Y, Z}
 use Rattle.algebra.proofs.Refusals.{one_answer}
 use Rattle.texts.specs.Held.{used}
 use Rattle.texts.specs.declared.text.Text.{Text}
@@ -23,6 +22,7 @@ use Rattle.steps.specs.declared.refusal.StepRefusal.{StepRefusal}
 use Rattle.steps.specs.declared.refusal.StepRefusal.TheVariants.{NoTree, Form, Supplies, Place, NoFit, TooLong}
 use Rattle.steps.proofs.Fields.{says_one}
 use Rattle.steps.proofs.Fitting.{fits_one, lacked, steps_on, derives_on, stays_whole}
+use Rattle.steps.proofs.Letters.{supplied_is}
 
 -- the numbers tell the refusals apart
 of_code : ℕ → StepRefusal
@@ -176,11 +176,6 @@ module _ (old : List ℕ) (events : ℕ) (bs : List ℕ) (q : Request) (says : S
             all TooLong = (q, says, (new, (fits, short)))
 
 -- the borrowed terms of a record, and what it says
-
-supplied_is : (s : StepRecord) (v : Variable) → supplied_for (request_of s) v ≡ bytes_of (slot s.supplied v)
-supplied_is s X = refl
-supplied_is s Y = refl
-supplied_is s Z = refl
 
 some_bytes : (o : Option (Bor (List ℕ))) → is_some (bytes_of o) ≡ is_some o
 some_bytes None = refl

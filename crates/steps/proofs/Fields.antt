@@ -1,6 +1,6 @@
 -- The fields of a step record are read in one way only, one bit after the other.
 -- Assumes nothing.
-use Rattle.std.proofs.Common.{◌≡◌, ℕ, zero, suc, ◌+◌, ◌-◌, ◌<◌, ◌≤◌, Bool, true, false, List, [], ◌∷◌, ◌++◌, length, take, drop, sym, refl, ap, ◌∙◌, subst, arith}
+use Rattle.std.proofs.Common.{◌≡◌, ℕ, zero, suc, ◌+◌, ◌-◌, ◌<◌, ◌≤◌, Bool, true, false, List, [], ◌∷◌, ◌++◌, length, get_or, take, drop, sym, refl, ap, ◌∙◌, subst, arith}
 use Rattle.std.proofs.lemmas.List.{take_at, drop_at, length-append}
 use Rattle.algebra.specs.Rules.{variable_byte}
 use Rattle.algebra.specs.declared.Variable.{Variable}
@@ -8,6 +8,9 @@ use Rattle.algebra.specs.declared.Variable.TheVariants.{X, Y, Z}
 use Rattle.algebra.specs.declared.Way.{Way}
 use Rattle.algebra.specs.declared.Way.TheVariants.{Forward, Backward}
 use Rattle.steps.specs.Records.{Request, Field, the_rule, the_way, the_place, the_term, bit_of, bits, bit_stands, blank, put, way_byte, FieldAt, Next, Fields, Says, WholeTerm, supplied_for}
+use Rattle.steps.specs.Readings.{kind_bit}
+use Rattle.steps.specs.declared.record.FieldKind.{FieldKind}
+use Rattle.steps.specs.declared.record.FieldKind.TheVariants.{Rule as KindRule, Way as KindWay, Place as KindPlace, Supply as KindSupply}
 use Rattle.steps.proofs.Fronts.{cut, cut_length}
 use Rattle.steps.proofs.Taken.{high, same_letter}
 
@@ -136,6 +139,30 @@ module _ (map : ℕ) (bs : List ℕ) (bit : ℕ) (h : bit < 6) (q : Request) (re
   remaining_none none p w =
       let go = subst (λ (l : List ℕ). Fields map l q rest p) (drop_bits bit h) (inv.to p w) in
       none go.0 go.1 go.2
+
+-- the kinds of the fields, in the order of their bits
+abbrev pub kinds : List FieldKind
+kinds = KindRule ∷ KindWay ∷ KindPlace ∷ KindSupply X ∷ KindSupply Y ∷ KindSupply Z ∷ []
+
+pub kind_at : (bit : ℕ) (d : FieldKind) → bit < 6 → kind_bit (get_or kinds bit d) ≡ bit
+kind_at zero d h = refl
+kind_at (suc zero) d h = refl
+kind_at (suc (suc zero)) d h = refl
+kind_at (suc (suc (suc zero))) d h = refl
+kind_at (suc (suc (suc (suc zero)))) d h = refl
+kind_at (suc (suc (suc (suc (suc zero))))) d h = refl
+kind_at (suc (suc (suc (suc (suc (suc n)))))) d h = absurd (omega arith)
+
+-- a field stands at a bit as its kind says, where the bit stands
+pub at_bit : (given : Bool) (bit n : ℕ) (q : Request) (bs : List ℕ) (p : Request) (rest : List ℕ) → given ≡ true → n ≡ bit → Next true n q bs p rest → Next given bit q bs p rest
+at_bit given bit n q bs p rest stands is next = subst (λ (b : Bool). Next b bit q bs p rest) (sym stands) (subst (λ (k : ℕ). Next true k q bs p rest) is next)
+
+pub of_kind : (given : Bool) (bit n : ℕ) (q : Request) (bs : List ℕ) (p : Request) (rest : List ℕ) → given ≡ true → n ≡ bit → Next given bit q bs p rest → Next true n q bs p rest
+of_kind given bit n q bs p rest stands is next = subst (λ (k : ℕ). Next true k q bs p rest) (sym is) (subst (λ (b : Bool). Next b bit q bs p rest) stands next)
+
+-- where the bit does not stand, nothing is read
+pub no_bit : (given : Bool) (bit : ℕ) (q : Request) (bs : List ℕ) → given ≡ false → Next given bit q bs q bs
+no_bit given bit q bs none = subst (λ (b : Bool). Next b bit q bs q bs) (sym none) (refl, refl)
 
 -- all bits were read
 pub remaining_done : (map : ℕ) (bs : List ℕ) (bit : ℕ) (q : Request) (rest : List ℕ) → bit ≡ 6 → Remaining map bs (drop bit bits) q rest → rest ≡ [] → Fields map bits blank bs q

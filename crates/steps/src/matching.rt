@@ -13,17 +13,8 @@ fn bind<'a>(bound: Option<&'a [u8]>, text: &'a [u8]) -> Option<(&'a [u8], &'a [u
     ensures { MatchOption result ((w rest : List ℕ) → Takes bound.entry w → text.now ≢ w ++ rest) (λ p. Takes bound.entry p.0.now × (text.now ≡ p.0.now ++ p.1.now)) }
 {
     match bound {
-        None => {
-            let end = term_end(text, 0)?;
-            Some((&text[0..end], &text[end..]))
-        }
-        Some(term) => {
-            if text.starts_with(term) {
-                Some((term, &text[term.len()..]))
-            } else {
-                None
-            }
-        }
+        None => Some(text.split_at(term_end(text, 0)?)),
+        Some(term) => Some((term, text.strip_prefix(term)?)),
     }
 }
 
@@ -45,14 +36,6 @@ impl<'a> Walk<'a> {
         }
     }
 
-    // The bytes of the text after the match.
-    pub fn after(self) -> &'a [u8]
-        ensures { result.now ≡ self.entry.rest.now }
-    {
-        let Walk { rest, .. } = self;
-        rest
-    }
-
     // One symbol of a side: a letter takes a term of the text, and any other symbol takes itself.
     fn step(self, symbol: u8) -> Option<Walk<'a>>
         ensures { MatchOption result (Stuck self.entry symbol) (λ w. Took self.entry symbol w) }
@@ -66,15 +49,10 @@ impl<'a> Walk<'a> {
                 })
             }
             None => {
-                let [byte, after @ ..] = self.rest else {
-                    return None;
-                };
-                if *byte != symbol {
-                    return None;
-                }
-                Some(Walk {
-                    bound: self.bound,
+                let (byte, after) = self.rest.split_first()?;
+                (*byte == symbol).then_some(Walk {
                     rest: after,
+                    ..self
                 })
             }
         }

@@ -8,7 +8,7 @@ ghost use Rattle.steps.specs.Stepping.{OneAnswer, StepAnswer, StepsOn, text_in};
 use crate::record::read_step;
 use crate::refusal::StepRefusal;
 use crate::rewriting::{rewrite, supplies_lacked};
-use crate::rules::{new_side, old_side};
+use crate::rules::Sides;
 use texts::text::Text;
 
 // The text after the step of a record, for a tree with so many events.
@@ -20,14 +20,13 @@ pub fn apply_step(text: &Text, events: u8, bytes: &[u8]) -> Result<Text, StepRef
     ensures derived { IfOk result (λ new. (bs : List ℕ) → Derived bs (used text.now) → Derived bs (used new)) }
 {
     let said = read_step(bytes, events)?;
-    let from = old_side(said.rule, said.way);
-    let to = new_side(said.rule, said.way);
-    if !supplies_lacked(from, to, said.supplied) {
+    let sides = Sides::of(said.rule, said.way);
+    if !supplies_lacked(sides, said.supplied) {
         return Err(StepRefusal::Supplies);
     }
     let old = text.as_bytes();
     if said.place >= old.len() {
         return Err(StepRefusal::Place);
     }
-    rewrite(old, said.place, from, to, said.supplied)
+    rewrite(old, said.place, sides, said.supplied)
 }

@@ -25,7 +25,7 @@ returns-then-not-supplies_lacked c =
     let bs = c.args.bytes.now in
     let s = c.in_ok-said.said in
     let says = c.in_ok-said.ensures.read in
-    let tested = c.supplies_lacked.ensures (old_of (request_of s)) (new_of (request_of s)) c.old_side-from.ensures c.new_side-to.ensures in
+    let tested = c.supplies_lacked.ensures (old_of (request_of s)) (new_of (request_of s)) c.of-sides.ensures in
     let wrong = not_from_Decides c.supplies_lacked.result tested c.if-not-supplies_lacked.true in
     let a = refused old c.args.events bs Supplies (no_supply old c.args.events bs (request_of s) says (λ l. wrong (lacks_tested s l))) in
     record { answer = a.answer; one = step_one old c.args.events bs; whole = a.whole; step = a.step; derived = a.derived }
@@ -36,7 +36,7 @@ returns-then-said-old c =
     let bs = c.args.bytes.now in
     let s = c.in_ok-said.said in
     let says = c.in_ok-said.ensures.read in
-    let tested = c.supplies_lacked.ensures (old_of (request_of s)) (new_of (request_of s)) c.old_side-from.ensures c.new_side-to.ensures in
+    let tested = c.supplies_lacked.ensures (old_of (request_of s)) (new_of (request_of s)) c.of-sides.ensures in
     let right = tested.0 c.if-not-supplies_lacked.false in
     let past : length old ≤ s.place = omega (arith, ap length c.as_bytes-old.ensures) in
     let a = refused old c.args.events bs Place (no_place old c.args.events bs (request_of s) says (tested_lacks s right) past) in
@@ -49,10 +49,10 @@ returns c =
     let s = c.in_ok-said.said in
     let q = request_of s in
     let says = c.in_ok-said.ensures.read in
-    let tested = c.supplies_lacked.ensures (old_of q) (new_of q) c.old_side-from.ensures c.new_side-to.ensures in
+    let tested = c.supplies_lacked.ensures (old_of q) (new_of q) c.of-sides.ensures in
     let right = tested.0 c.if-not-supplies_lacked.false in
     let inside : s.place < length old = omega (arith, ap length c.as_bytes-old.ensures) in
-    let made = c.rewrite.ensures (old_of q) (new_of q) c.old_side-from.ensures c.new_side-to.ensures (provided c.args.events bs s says right) in
+    let made = c.rewrite.ensures (old_of q) (new_of q) c.of-sides.ensures (provided c.args.events bs s says right) in
     let a = answered old c.args.events bs s says right inside c.rewrite.result
     (subst (λ (l : List ℕ). Rewritten l s.place (old_of q) (new_of q) s.supplied c.rewrite.result) c.as_bytes-old.ensures made) in
     record { answer = a.answer; one = step_one old c.args.events bs; whole = a.whole; step = a.step; derived = a.derived }

@@ -3,7 +3,7 @@ use Rattle.std.proofs.lemmas.List.Elements.{contains_decides, Decides-contains}
 use Rattle.std.proofs.lemmas.Bool.Decides.{same_from_decides, Decides-eqb}
 use Rattle.algebra.specs.Rules.{has, variable_byte}
 use Rattle.steps.proofs.Having.{decides_has}
-use Rattle.steps.proofs.rewriting.has_letter.Goals as goal
+use Rattle.steps.proofs.rules.has_letter.Goals as goal
 
 pub returns : goal.returns
 returns c s is =
