@@ -6,8 +6,7 @@ use Rattle.algebra.specs.Terms.{Term, inst}
 use Rattle.algebra.specs.Texts.{text_of}
 use Rattle.algebra.specs.Rules.{variable_byte, has}
 use Rattle.algebra.specs.declared.Variable.{Variable}
-use Rattle.texts.specs.Held.{used}
-use Rattle.texts.specs.declared.text.Text.{Text}
+use Rattle.texts.specs.declared.text.NoRoom.{NoRoom}
 use Rattle.steps.specs.Sides.{slot, Agrees, Matches}
 use Rattle.steps.specs.declared.binding.Binding.{Binding}
 use Rattle.steps.specs.declared.refusal.StepRefusal.{StepRefusal}
@@ -44,9 +43,14 @@ pub record Instance (old : List ℕ) (place : ℕ) (from to : Term Variable) (su
   pub before : Matches from choice (drop place old) rest
   pub after : new ≡ take place old ++ (text_of (inst choice to) ++ rest)
 
+-- the bytes w were added, or they do not fit into a text
+abbrev pub Added : Result (Unit {0}) NoRoom → List ℕ → List ℕ → List ℕ → Type 0
+Added (Ok u) old new w = new ≡ old ++ w
+Added (Err e) old new w = 511 < length (old ++ w)
+
 -- the new text, or that the side does not fit, or that the new text would be too long
-abbrev pub Rewritten : List ℕ → ℕ → Term Variable → Term Variable → Binding → Result Text StepRefusal → Type 0
-Rewritten old place from to sup (Ok new) = Instance old place from to sup (used new)
+abbrev pub Rewritten : List ℕ → ℕ → Term Variable → Term Variable → Binding → Result (List ℕ) StepRefusal → Type 0
+Rewritten old place from to sup (Ok new) = Instance old place from to sup new
 Rewritten old place from to sup (Err NoFit) = (σ : Variable → Term ℕ) (rest : List ℕ) → Matches from σ (drop place old) rest → ⊥
 Rewritten old place from to sup (Err TooLong) = (new : List ℕ) × (Instance old place from to sup new × (511 < length new))
 Rewritten old place from to sup (Err NoTree) = ⊥

@@ -1,7 +1,6 @@
 // The letters of a rule with the bytes of the terms that they stand for.
-ghost use Rattle.std.specs.Prelude.{◌≡◌, true, false, Some, None, MatchOption, ◌≢◌};
+ghost use Rattle.std.specs.Prelude.{◌≡◌, true, false, Some, None, ◌≢◌};
 ghost use Rattle.std.specs.Bool.{MatchBool};
-ghost use Rattle.algebra.specs.Rules.{variable_byte};
 ghost use Rattle.algebra.specs.declared.Variable.{Variable as Letter};
 ghost use Rattle.steps.specs.Sides.{slot, either};
 
@@ -67,17 +66,5 @@ impl<'a> Binding<'a> {
         ensures { MatchBool result ((v : Letter) → F.post test v (slot self.entry v) true) ((v : Letter) × F.post test v (slot self.entry v) false) }
     {
         test(Variable::X, self.x) && test(Variable::Y, self.y) && test(Variable::Z, self.z)
-    }
-}
-
-// The letter of a rule that a byte is.
-pub(crate) fn variable_of(byte: u8) -> Option<Variable>
-    ensures { MatchOption result ((v : Letter) → byte ≢ variable_byte v) (λ v. byte ≡ variable_byte v) }
-{
-    match byte {
-        b'X' => Some(Variable::X),
-        b'Y' => Some(Variable::Y),
-        b'Z' => Some(Variable::Z),
-        _ => None,
     }
 }

@@ -2,9 +2,7 @@
 ghost use Rattle.std.specs.Prelude.{◌≡◌, ℕ, List, IfOk};
 ghost use Rattle.algebra.specs.Steps.{Derived};
 ghost use Rattle.algebra.specs.Texts.{Whole};
-ghost use Rattle.texts.specs.Held.{used};
 ghost use Rattle.steps.specs.Files.{NextRecord, OneRecord, OneRun, Runs, answer_at};
-ghost use Rattle.steps.specs.Stepping.{text_in};
 
 use crate::records::Records;
 use crate::refusal::StepRefusal;
@@ -53,10 +51,10 @@ pub fn at_step<T>(answer: Result<T, StepRefusal>, step: usize) -> Result<T, Step
 
 // The text after all steps of the file.
 pub fn apply_steps(text: Text, events: u8, file: &[u8]) -> Result<Text, StepFault>
-    ensures run { Runs events 1 (used text) file.now (text_in result) }
-    ensures one { OneRun events (used text) file.now }
-    ensures whole { IfOk result (λ new. Whole events (used text) → Whole events (used new)) }
-    ensures derived { IfOk result (λ new. (bs : List ℕ) → Derived bs (used text) → Derived bs (used new)) }
+    ensures run { Runs events 1 text file.now result }
+    ensures one { OneRun events text file.now }
+    ensures whole { IfOk result (λ new. Whole events text → Whole events new) }
+    ensures derived { IfOk result (λ new. (bs : List ℕ) → Derived bs text → Derived bs new) }
 {
     let mut present = text;
     for record in Records::of(file) {

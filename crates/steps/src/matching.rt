@@ -1,11 +1,12 @@
 // A rule's side beside a text: X, Y and Z stand for terms of the text.
 ghost use Rattle.std.specs.Prelude.{◌≡◌, ℕ, List, ◌++◌, None, MatchOption, ◌≢◌};
 ghost use Rattle.algebra.specs.Terms.{Term};
-ghost use Rattle.algebra.specs.declared.Variable.{Variable};
+ghost use Rattle.algebra.specs.declared.Variable.{Variable as Letter};
 ghost use Rattle.steps.specs.Sides.{Fitted, Matches, Takes, side_text, slot};
 ghost use Rattle.steps.specs.Walks.{Stuck, Took};
 
-use crate::binding::{Binding, variable_of};
+use crate::binding::Binding;
+use algebra::Variable;
 use texts::scan::term_end;
 
 // The text's first bytes that the letter stands for, and the bytes after them.
@@ -27,7 +28,7 @@ pub struct Walk<'a> {
 
 impl<'a> Walk<'a> {
     fn start(text: &'a [u8]) -> Walk<'a>
-        ensures none { (v : Variable) → slot result.bound v ≡ None }
+        ensures none { (v : Letter) → slot result.bound v ≡ None }
         ensures rest { result.rest.now ≡ text.now }
     {
         Walk {
@@ -40,15 +41,15 @@ impl<'a> Walk<'a> {
     fn step(self, symbol: u8) -> Option<Walk<'a>>
         ensures { MatchOption result (Stuck self.entry symbol) (λ w. Took self.entry symbol w) }
     {
-        match variable_of(symbol) {
-            Some(letter) => {
+        match Variable::try_from(symbol) {
+            Ok(letter) => {
                 let (term, after) = bind(self.bound.get(letter), self.rest)?;
                 Some(Walk {
                     bound: self.bound.with(letter, term),
                     rest: after,
                 })
             }
-            None => {
+            Err(_) => {
                 let (byte, after) = self.rest.split_first()?;
                 (*byte == symbol).then_some(Walk {
                     rest: after,
@@ -61,7 +62,7 @@ impl<'a> Walk<'a> {
 
 // What the side's letters stand for where it fits the front of the text, and the bytes after that.
 pub fn fit<'a>(side: &[u8], text: &'a [u8]) -> Option<Walk<'a>>
-    ensures { (s : Term Variable) → side.now ≡ side_text s → MatchOption result ((σ : Variable → Term ℕ) (rest : List ℕ) → Matches s σ text.now rest → ⊥) (λ w. Fitted s text.now w.bound w.rest.now) }
+    ensures { (s : Term Letter) → side.now ≡ side_text s → MatchOption result ((σ : Letter → Term ℕ) (rest : List ℕ) → Matches s σ text.now rest → ⊥) (λ w. Fitted s text.now w.bound w.rest.now) }
 {
     let mut walk = Walk::start(text);
     for symbol in side {

@@ -13,7 +13,7 @@ use texts::scan::is_whole;
 const RULES: u8 = 42;
 
 // What a step record says.
-#[derive(Clone, Copy)]
+#[derive(Clone, Copy, Debug, PartialEq, Eq)]
 pub struct StepRecord<'a> {
     pub rule: u8,
     pub way: Way,
@@ -22,7 +22,7 @@ pub struct StepRecord<'a> {
 }
 
 // A field of a step record. A supplied term is a part of the record.
-#[derive(Clone, Copy)]
+#[derive(Clone, Copy, Debug, PartialEq, Eq)]
 pub enum StepField<'a> {
     Rule(u8),
     Way(Way),
@@ -31,7 +31,7 @@ pub enum StepField<'a> {
 }
 
 // What a field of a step record is about.
-#[derive(Clone, Copy)]
+#[derive(Clone, Copy, Debug, PartialEq, Eq)]
 pub(crate) enum FieldKind {
     Rule,
     Way,

@@ -1,9 +1,11 @@
 // Why a step is refused, and the number of each reason.
 ghost use Rattle.std.specs.Prelude.{◌≡◌};
-ghost use Rattle.steps.specs.Refusals.{step_code};
+ghost use Rattle.steps.specs.declared.refusal.StepRefusal.TheVariants.{TooLong};
 
+use algebra::Refusal;
 use std::error::Error;
 use std::fmt;
+use texts::text::NoRoom;
 
 #[derive(Clone, Copy, Debug, PartialEq, Eq)]
 pub enum StepRefusal {
@@ -15,10 +17,14 @@ pub enum StepRefusal {
     TooLong,
 }
 
-impl StepRefusal {
-    pub fn code(self) -> u8
-        ensures { result ≡ step_code self }
-    {
+impl Refusal for StepRefusal {
+    ghost use Rattle.steps.specs.Refusals.{step_code, step_codes_differ};
+
+    ghost number = { step_code };
+
+    ghost distinct = { step_codes_differ };
+
+    fn code(self) -> u8 {
         match self {
             StepRefusal::NoTree => 11,
             StepRefusal::Form => 12,
@@ -27,6 +33,15 @@ impl StepRefusal {
             StepRefusal::NoFit => 15,
             StepRefusal::TooLong => 16,
         }
+    }
+}
+
+// Where bytes do not fit into a text, the new text would be too long.
+impl From<NoRoom> for StepRefusal {
+    ghost from_gives = { λ _ refusal. refusal ≡ TooLong };
+
+    fn from(_full: NoRoom) -> StepRefusal {
+        StepRefusal::TooLong
     }
 }
 

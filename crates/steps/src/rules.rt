@@ -1,6 +1,6 @@
 // The rule sheet in code: the two sides of each rule, as bytes.
 ghost use Rattle.std.specs.Prelude.{◌≡◌, ◌≤◌, not, ◌&&◌};
-ghost use Rattle.algebra.specs.Rules.{has, new_side, numbered, old_side, variable_byte};
+ghost use Rattle.algebra.specs.Rules.{has, new_side, numbered, old_side};
 ghost use Rattle.algebra.specs.Terms.{Term};
 ghost use Rattle.algebra.specs.declared.Variable.{Variable as Letter};
 ghost use Rattle.steps.specs.Sides.{side_text};
@@ -8,7 +8,7 @@ ghost use Rattle.steps.specs.Sides.{side_text};
 use algebra::{Variable, Way};
 
 // The two sides of a rule of the sheet.
-#[derive(Clone, Copy)]
+#[derive(Clone, Copy, Debug, PartialEq, Eq)]
 pub struct Rule {
     pub left: &'static [u8],
     pub right: &'static [u8],
@@ -185,26 +185,15 @@ const SHEET: [Rule; 42] = [
     },
 ];
 
-// The byte of a letter of a rule.
-fn variable_byte(letter: Variable) -> u8
-    ensures { result ≡ variable_byte letter }
-{
-    match letter {
-        Variable::X => b'X',
-        Variable::Y => b'Y',
-        Variable::Z => b'Z',
-    }
-}
-
 // Whether the letter stands in the side.
 fn has_letter(side: &[u8], letter: Variable) -> bool
     ensures { (s : Term Letter) → side.now ≡ side_text s → result ≡ has letter s }
 {
-    side.contains(&variable_byte(letter))
+    side.contains(&u8::from(letter))
 }
 
 // The side that a step finds, and the side that it puts there.
-#[derive(Clone, Copy)]
+#[derive(Clone, Copy, Debug, PartialEq, Eq)]
 pub struct Sides {
     pub old: &'static [u8],
     pub new: &'static [u8],

@@ -1,6 +1,5 @@
 use Rattle.std.proofs.Common.{Some, Result, ℕ, List, Bor, sym, ap, ◌∙◌, subst}
 use Rattle.std.proofs.lemmas.Result.{err_from_is_err_and}
-use Rattle.texts.specs.Held.{used}
 use Rattle.steps.specs.Files.{NextOf, answer_at}
 use Rattle.steps.specs.declared.file.StepFault.{StepFault}
 use Rattle.steps.proofs.Running.{Running, run_cut, run_refused, run_ended, run_more, one_run}
@@ -14,7 +13,7 @@ returns-in_err-step-clause-run c =
     rw (p.1, p.2) (run_cut c.args.events c.args.text c.args.file.now it.step c.loop-record.present it.left.now c.loop-record.invariant.2 c.in_err-step.field-0.0 given.0 given.1)
 
 pub returns-in_err-step-clause-one : goal.returns-in_err-step-clause-one
-returns-in_err-step-clause-one c = one_run c.args.events (used c.args.text) c.args.file.now
+returns-in_err-step-clause-one c = one_run c.args.events c.args.text c.args.file.now
 
 pub returns-in_err-present-clause-run : goal.returns-in_err-present-clause-run
 returns-in_err-present-clause-run c =
@@ -27,7 +26,7 @@ returns-in_err-present-clause-run c =
     (ap (λ (n : ℕ). answer_at n c.apply_step.result) (sym given.0) ∙ sym c.at_step.ensures ∙ c.in_err-present.was))
 
 pub returns-in_err-present-clause-one : goal.returns-in_err-present-clause-one
-returns-in_err-present-clause-one c = one_run c.args.events (used c.args.text) c.args.file.now
+returns-in_err-present-clause-one c = one_run c.args.events c.args.text c.args.file.now
 
 pub loop-record-preserved : goal.loop-record-preserved
 loop-record-preserved c =
@@ -47,4 +46,4 @@ returns-clause-run c =
     run_ended c.args.events c.args.text c.args.file.now it.step c.loop-record.present it.left.now c.loop-record.invariant.2 c.in-None.ensures.steps.0
 
 pub returns-clause-one : goal.returns-clause-one
-returns-clause-one c = one_run c.args.events (used c.args.text) c.args.file.now
+returns-clause-one c = one_run c.args.events c.args.text c.args.file.now

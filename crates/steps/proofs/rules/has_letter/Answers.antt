@@ -9,8 +9,8 @@ pub returns : goal.returns
 returns c s is =
     let r = c.contains.result in
     let found =
-    Decides-contains c.args.side.now c.variable_byte.result r
-    (contains_decides eqb Decides-eqb c.args.side.now c.variable_byte.result r c.contains.ensures.cases) in
+    Decides-contains c.args.side.now c.from.result r
+    (contains_decides eqb Decides-eqb c.args.side.now c.from.result r c.contains.ensures.cases) in
     same_from_decides r (has c.args.letter s)
-    (subst (λ (l : List ℕ). Decides r (Contains l (variable_byte c.args.letter))) is (subst (λ (n : ℕ). Decides r (Contains c.args.side.now n)) c.variable_byte.ensures found))
+    (subst (λ (l : List ℕ). Decides r (Contains l (variable_byte c.args.letter))) is (subst (λ (n : ℕ). Decides r (Contains c.args.side.now n)) c.from.ensures found))
     (decides_has c.args.letter s)
