@@ -2,7 +2,7 @@
 ghost use Rattle.std.specs.Prelude.{◌≡◌, ◌+◌, ◌^◌, ◌<◌, length};
 ghost use Rattle.std.specs.Iterator.{at_most};
 
-use crate::file::{StepFault, next_record};
+use crate::file::{StepFault, at_step, next_record};
 
 // The records of a file that are left, and the number of the first of them.
 #[derive(Clone, Copy, Debug, PartialEq, Eq)]
@@ -37,7 +37,7 @@ impl<'a> Iterator for Records<'a> {
 
     fn next(&mut self) -> Option<Result<(usize, &'a [u8]), StepFault>> {
         let Records { left, step } = *self;
-        match next_record(left) {
+        match at_step(next_record(left), step) {
             Ok(None) => None,
             Ok(Some((bytes, rest))) => {
                 *self = Records {
@@ -46,9 +46,9 @@ impl<'a> Iterator for Records<'a> {
                 };
                 Some(Ok((step, bytes)))
             }
-            Err(refusal) => {
+            Err(fault) => {
                 *self = Records { left: &[], step };
-                Some(Err(StepFault { step, refusal }))
+                Some(Err(fault))
             }
         }
     }

@@ -14,6 +14,7 @@ pub struct Rule {
     pub right: &'static [u8],
 }
 
+// A table in fixed memory, read by the number of a rule.
 const SHEET: [Rule; 42] = [
     Rule {
         left: b"+XY",
