@@ -1,12 +1,14 @@
--- The state that a bench holds, and its open tree.
+-- The open tree of a bench.
 -- Assumes nothing.
+use Rattle.std.specs.Prelude.{◌≡◌, ℕ, List}
+use Rattle.texts.specs.Held.{used}
+use Rattle.trees.specs.Means.{Means}
 use Rattle.trees.specs.declared.reader.Tree.{Tree}
 use Rattle.derivation.specs.Model.{State}
-use Rattle.derivation.specs.Stands.{stands}
-use Rattle.derivation.specs.declared.bench.Bench.{Bench}
 
-abbrev pub state_of : Bench → State
-state_of b = stands b.opened b.events b.source b.present
-
-abbrev pub open_tree : Bench → Tree
-open_tree b = record { events = b.events; source = b.source }
+-- the bytes mean the tree that is open
+pub record MeansOpen (bs : List ℕ) (s : State) : Type 0 where
+  pub tree : Tree
+  pub events : tree.events ≡ s.events
+  pub source : used tree.source ≡ s.source
+  pub means : Means bs tree

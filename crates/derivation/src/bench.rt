@@ -1,27 +1,32 @@
-// A bench; its calls are in `calls`.
-ghost use Rattle.std.specs.Prelude.{◌≤◌, List};
-ghost use Rattle.algebra.specs.Steps.{Derived};
-ghost use Rattle.algebra.specs.Texts.{Whole};
-ghost use Rattle.texts.specs.Held.{used};
-ghost use Rattle.derivation.specs.Law.{Known, Run};
-ghost use Rattle.derivation.specs.Stands.{stands};
-
+// A bench; its calls are in `calls`, and what it is asked in `questions`.
+use std::marker::Model;
 use texts::text::Text;
+use trees::reader::Tree;
 
 mod calls;
 mod questions;
 
-// No bench can exist whose present text is not reached from its source text by rules of the sheet,
-// or that no run of calls on a new bench leads to.
+// The tree last opened, and the text after all steps granted since.
+#[derive(Clone, Copy)]
+struct Derivation {
+    tree: Tree,
+    present: Text,
+}
+
 #[derive(Drop)]
 pub struct Bench {
-    opened: bool,
-    events: u8,
-    source: Text,
-    present: Text,
-    ghost few: { events ≤ 24 },
-    ghost source_whole: { ∥ Whole events (used source) ∥₁ },
-    ghost present_whole: { ∥ Whole events (used present) ∥₁ },
-    ghost reached: { ∥ Derived (used source) (used present) ∥₁ },
-    ghost ran: { ∥ ((h : List Known) × Run h (stands opened events source present)) ∥₁ },
+    derivation: Option<Derivation>,
+}
+
+// No bench can exist whose present text is not reached from its source text by rules of the sheet,
+// or that no run of calls on a new bench leads to.
+impl Model for Bench {
+    ghost use Rattle.derivation.specs.Model.{State};
+    ghost use Rattle.derivation.specs.Stands.{Stands, state_of};
+
+    ghost Value = { State };
+
+    ghost view = { λ b. state_of b.derivation };
+
+    ghost invariant = { λ b. Stands (state_of b.derivation) };
 }

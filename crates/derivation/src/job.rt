@@ -3,11 +3,12 @@ ghost use Rattle.std.specs.Prelude.{◌≡◌, List, OnErr};
 ghost use Rattle.sequences.specs.Tables.{held};
 ghost use Rattle.derivation.specs.Jobs.{Job, Made};
 ghost use Rattle.derivation.specs.Law.{Known, Run};
-ghost use Rattle.derivation.specs.Views.{state_of};
+ghost use Rattle.derivation.specs.declared.job.JobFault.TheVariants as fault;
 
 use crate::bench::Bench;
 use sequences::refusals::CloseRefusal;
 use sequences::table::Table;
+use std::fmt;
 use steps::file::{StepFault, at_step, next_record};
 use trees::refusal::TreeRefusal;
 
@@ -19,10 +20,45 @@ pub enum JobFault {
     Close(CloseRefusal),
 }
 
+impl From<TreeRefusal> for JobFault {
+    ghost from_gives = { λ e f. f ≡ fault.Tree e };
+
+    fn from(refusal: TreeRefusal) -> JobFault {
+        JobFault::Tree(refusal)
+    }
+}
+
+impl From<StepFault> for JobFault {
+    ghost from_gives = { λ e f. f ≡ fault.Step e };
+
+    fn from(fault: StepFault) -> JobFault {
+        JobFault::Step(fault)
+    }
+}
+
+impl From<CloseRefusal> for JobFault {
+    ghost from_gives = { λ e f. f ≡ fault.Close e };
+
+    fn from(refusal: CloseRefusal) -> JobFault {
+        JobFault::Close(refusal)
+    }
+}
+
+// The one line of a refusal.
+impl fmt::Display for JobFault {
+    fn fmt<W: fmt::Write>(&self, f: &mut fmt::Formatter<W>) -> fmt::Result {
+        match self {
+            JobFault::Tree(tree) => write!(f, "tree {}", tree.code()),
+            JobFault::Step(step) => write!(f, "step {} {}", step.step, step.refusal.code()),
+            JobFault::Close(close) => write!(f, "close {}", close.code()),
+        }
+    }
+}
+
 impl Bench {
     // Makes the steps of a file, in which each record has its length before it. The first one refused is named.
     pub fn step_all(&mut self, file: &[u8]) -> Result<(), StepFault>
-        ensures { (h : List Known) → Run h (state_of self.old) → Made h file.now result (state_of self.new) }
+        ensures { (h : List Known) → Run h self.old → Made h file.now result self.new }
     {
         let mut left = file;
         let mut step = 1usize;
@@ -41,16 +77,8 @@ pub fn derive(tree: &[u8], file: &[u8], table: &mut Table) -> Result<(), JobFaul
     ensures left { OnErr result (table.new ≡ table.old) }
 {
     let mut bench = Bench::new();
-    match bench.open(tree) {
-        Ok(()) => {}
-        Err(refusal) => return Err(JobFault::Tree(refusal)),
-    }
-    match bench.step_all(file) {
-        Ok(()) => {}
-        Err(fault) => return Err(JobFault::Step(fault)),
-    }
-    match bench.close(table) {
-        Ok(()) => Ok(()),
-        Err(refusal) => Err(JobFault::Close(refusal)),
-    }
+    bench.open(tree)?;
+    bench.step_all(file)?;
+    bench.close(table)?;
+    Ok(())
 }

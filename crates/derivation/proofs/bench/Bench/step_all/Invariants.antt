@@ -1,12 +1,11 @@
 use Rattle.std.proofs.Common.{◌+◌, ◌*◌, ◌≤◌, List, length}
 use Rattle.derivation.specs.Law.{Known, Run}
-use Rattle.derivation.specs.Views.{state_of}
 use Rattle.derivation.proofs.Walking.{Underway}
 use Rattle.derivation.proofs.bench.Bench.step_all.Given as goal
 
 abbrev pub invariant-loop-bytes : goal.invariant-loop-bytes
 invariant-loop-bytes l =
-    ((h : List Known) → Run h (state_of l.initial.self) → Underway h l.file l.step l.left (state_of l.self))
+    ((h : List Known) → Run h l.initial.self → Underway h l.file l.step l.left l.self)
     × (2 * l.step + length l.left ≤ 2 + length l.file)
 
 abbrev pub decreases-loop-bytes : goal.decreases-loop-bytes
