@@ -35,10 +35,9 @@ impl Bench {
         ensures is { result.now ≡ self.now.source }
         ensures text { Source self.now.events self.now.source }
     {
-        match &self.derivation {
-            Some(derivation) => derivation.tree.source.as_bytes(),
-            None => NEVER,
-        }
+        self.derivation
+            .as_ref()
+            .map_or(NEVER, |derivation| derivation.tree.source.as_bytes())
     }
 
     // The text after all steps granted since.
@@ -46,10 +45,9 @@ impl Bench {
         ensures is { result.now ≡ self.now.present }
         ensures text { Source self.now.events self.now.present }
     {
-        match &self.derivation {
-            Some(derivation) => derivation.present.as_bytes(),
-            None => NEVER,
-        }
+        self.derivation
+            .as_ref()
+            .map_or(NEVER, |derivation| derivation.present.as_bytes())
     }
 
     // The term at a place, as a part of the present text.
