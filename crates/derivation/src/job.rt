@@ -9,7 +9,8 @@ use crate::bench::Bench;
 use sequences::refusals::CloseRefusal;
 use sequences::table::Table;
 use std::fmt;
-use steps::file::{StepFault, at_step, next_record};
+use steps::file::{StepFault, at_step};
+use steps::records::Records;
 use trees::refusal::TreeRefusal;
 
 // Where a job was refused, and why.
@@ -18,6 +19,17 @@ pub enum JobFault {
     Tree(TreeRefusal),
     Step(StepFault),
     Close(CloseRefusal),
+}
+
+// The one line of a refusal.
+impl fmt::Display for JobFault {
+    fn fmt<W: fmt::Write>(&self, f: &mut fmt::Formatter<W>) -> fmt::Result {
+        match self {
+            JobFault::Tree(tree) => write!(f, "tree {}", tree.code()),
+            JobFault::Step(step) => write!(f, "step {} {}", step.step, step.refusal.code()),
+            JobFault::Close(close) => write!(f, "close {}", close.code()),
+        }
+    }
 }
 
 impl From<TreeRefusal> for JobFault {
@@ -44,28 +56,14 @@ impl From<CloseRefusal> for JobFault {
     }
 }
 
-// The one line of a refusal.
-impl fmt::Display for JobFault {
-    fn fmt<W: fmt::Write>(&self, f: &mut fmt::Formatter<W>) -> fmt::Result {
-        match self {
-            JobFault::Tree(tree) => write!(f, "tree {}", tree.code()),
-            JobFault::Step(step) => write!(f, "step {} {}", step.step, step.refusal.code()),
-            JobFault::Close(close) => write!(f, "close {}", close.code()),
-        }
-    }
-}
-
 impl Bench {
     // Makes the steps of a file, in which each record has its length before it. The first one refused is named.
     pub fn step_all(&mut self, file: &[u8]) -> Result<(), StepFault>
         ensures { (h : List Known) → Run h self.old → Made h file.now result self.new }
     {
-        let mut left = file;
-        let mut step = 1usize;
-        while let Some((bytes, rest)) = at_step(next_record(left), step)? {
+        for record in Records::of(file) {
+            let (step, bytes) = record?;
             at_step(self.step(bytes), step)?;
-            left = rest;
-            step += 1;
         }
         Ok(())
     }
