@@ -1,6 +1,6 @@
 -- What each call makes of a bench.
 -- Assumes nothing.
-use Rattle.std.proofs.Common.{◌≡◌, ℕ, ◌≤◌, List, [], ◌∷◌, length, Some, None, Ok, Err, Option, Result, refl, ap, sym, ◌∙◌, subst, inl, inr, arith}
+use Rattle.std.proofs.Common.{◌≡◌, ℕ, ◌≤◌, true, List, [], ◌∷◌, length, Some, None, Ok, Err, Option, Result, refl, ap, sym, ◌∙◌, subst, inl, inr, arith}
 use Rattle.std.specs.Option.{ok_or}
 use Rattle.algebra.specs.Steps.{Derived, start}
 use Rattle.algebra.specs.Terms.{never}
@@ -10,6 +10,8 @@ use Rattle.trees.specs.Means.{Source}
 use Rattle.trees.specs.Reading.{Answer, gives, refuses, Stop, unread, faulty, left_over, no_source, granted, Outcome}
 use Rattle.trees.specs.declared.reader.Tree.{Tree}
 use Rattle.trees.specs.declared.record.Record.{Record}
+use Rattle.steps.specs.declared.refusal.StepRefusal.TheVariants.{TooLong}
+use Rattle.steps.proofs.Answering.{one_step_answer}
 use Rattle.derivation.specs.Law.{stepping, opening, then, begun}
 use Rattle.derivation.specs.Model.{State, fresh, Stepped, moved}
 use Rattle.derivation.specs.Stands.{Stands, state_of}
@@ -76,11 +78,19 @@ opened_stands s bs t is outcome source = record {
 
 -- STEPS
 
-pub stepped_stands : (s : State) (bs text : List ℕ) → Stands s → Stepped s bs (Ok tt) (moved s text) → length text ≤ 511 → Whole s.events text → Derived s.source text → Stands (moved s text)
-stepped_stands s bs text is o short whole reached = record {
+-- a granted step makes a text of at most 511 bytes
+granted_short : (s s' : State) (bs : List ℕ) → Stepped s bs (Ok tt) s' → length s'.present ≤ 511
+granted_short s s' bs o =
+    let room = o.0 TooLong in
+    let both = one_step_answer (s.opened ≡ true) s.present s.events bs (Ok room.2.0) (Ok s'.present) (o.0, (room.0, room.1, room.2.1.0)) (o.0, o.1) in
+    let same : room.2.0 ≡ s'.present = cc in
+    subst (λ (x : List ℕ). length x ≤ 511) same room.2.1.1
+
+pub stepped_stands : (s : State) (bs text : List ℕ) → Stands s → Stepped s bs (Ok tt) (moved s text) → Whole s.events text → Derived s.source text → Stands (moved s text)
+stepped_stands s bs text is o whole reached = record {
   few = is.few;
   source = is.source;
-  present = record { whole = whole; text = is_text s.events text is.few short whole };
+  present = record { whole = whole; text = is_text s.events text is.few (granted_short s _ bs o) whole };
   reached = reached;
   calls = stepping bs (Ok tt) ∷ is.calls;
   run = then (stepping bs (Ok tt)) is.run o;

@@ -3,7 +3,6 @@ use borrow.Author.Tests.{both_ways}
 use Rattle.std.specs.Option.{option_copied_mut}
 use Rattle.std.proofs.lemmas.Result.{err_from_is_err_and}
 use Rattle.texts.specs.Held.{used}
-use Rattle.texts.proofs.Grow.{used_short}
 use Rattle.steps.specs.declared.refusal.StepRefusal.TheVariants.{NoTree}
 use Rattle.derivation.specs.Model.{Stepped, fresh, moved}
 use Rattle.derivation.specs.Stands.{state_of}
@@ -40,7 +39,7 @@ invariant_of-self-2 c =
     let was = rw some at c.self.invariant in
     let is = c.in_ok-text.ensures in
     let o = answer_with_tree (s.opened ≡ true) s.present s.events bs refl (Ok (used c.in_ok-text.text)) is.answer in
-    stepped_stands s bs (used c.in_ok-text.text) was (o.0, o.1, refl) (used_short c.in_ok-text.text) (is.whole was.present.whole) (is.derived _ was.reached)
+    stepped_stands s bs (used c.in_ok-text.text) was (o.0, o.1, refl) (is.whole was.present.whole) (is.derived _ was.reached)
 
 pub returns : goal.returns
 returns c =
