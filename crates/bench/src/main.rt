@@ -30,7 +30,7 @@ fn tell_row(rt: &impl Print, table: &Table, row: usize) -> io::Result<()>
     io::writer(rt).write_all(&buffer[0..length])
 }
 
-// The lines of the table, or N where it has no rows.
+// The lines of the table, or N where it has no rows. A table gives its lines by number, and has no iterator of them.
 fn tell_table(rt: &impl Print, table: &Table) -> io::Result<()> {
     if table.len() == 0 {
         return println!(rt; "N");
