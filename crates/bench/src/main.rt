@@ -2,7 +2,6 @@
 #![tactic(auto)]
 
 ghost use Rattle.std.specs.Prelude.{◌<◌, length};
-ghost use Rattle.sequences.specs.Tables.{held};
 
 use derivation::job::derive;
 use sequences::table::Table;
@@ -23,7 +22,7 @@ fn read(files: &impl Files, alloc: Global, name: &str) -> io::Result<Vec<u8>> {
 
 // The line of a row.
 fn tell_row(rt: &impl Print, table: &Table, row: usize) -> io::Result<()>
-    requires { row < length (held table.now) }
+    requires { row < length table.now }
 {
     let mut buffer = [0u8; 512];
     let length = table.line(row, &mut buffer).unwrap();
@@ -32,7 +31,7 @@ fn tell_row(rt: &impl Print, table: &Table, row: usize) -> io::Result<()>
 
 // The lines of the table, or N where it has no rows. A table gives its lines by number, and has no iterator of them.
 fn tell_table(rt: &impl Print, table: &Table) -> io::Result<()> {
-    if table.len() == 0 {
+    if table.is_empty() {
         return println!(rt; "N");
     }
     for row in 0..table.len() {

@@ -5,7 +5,6 @@ use Rattle.std.specs.Option.{ok_or}
 use Rattle.algebra.specs.Steps.{Derived, start}
 use Rattle.algebra.specs.Terms.{never}
 use Rattle.algebra.specs.Texts.{text_of, Whole}
-use Rattle.texts.specs.Held.{used}
 use Rattle.trees.specs.Means.{Source}
 use Rattle.trees.specs.Reading.{Answer, gives, refuses, Stop, unread, faulty, left_over, no_source, granted, Outcome}
 use Rattle.trees.specs.declared.reader.Tree.{Tree}
@@ -66,7 +65,7 @@ outcome_few (E ∷ []) a o = subst Few (sym o) tt
 outcome_few (E ∷ n ∷ body) a (inl o) = stop_few E n o.1.records o.1.rest o.0.1 o.1.stop
 outcome_few (E ∷ n ∷ body) a (inr o) = subst Few (sym o.1) tt
 
-pub opened_stands : (s : State) (bs : List ℕ) (t : Tree) → Stands s → Outcome bs (gives t.events (used t.source)) → Source t.events (used t.source) → Stands (state_of (Some (record { tree = t; present = t.source })))
+pub opened_stands : (s : State) (bs : List ℕ) (t : Tree) → Stands s → Outcome bs (gives t.events t.source) → Source t.events t.source → Stands (state_of (Some (record { tree = t; present = t.source })))
 opened_stands s bs t is outcome source = record {
   few = outcome_few bs _ outcome;
   source = source;

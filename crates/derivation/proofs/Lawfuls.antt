@@ -11,20 +11,18 @@ use Rattle.algebra.proofs.Refusals.{one_refusal}
 use Rattle.trees.specs.declared.refusal.TreeRefusal.{TreeRefusal}
 use Rattle.sequences.specs.Closing as closing-texts
 use Rattle.sequences.specs.Closing.{CloseAsks, SomeNever}
-use Rattle.sequences.specs.Codes.{close_code}
+use Rattle.sequences.specs.Codes.{close_code, close_codes_differ}
 use Rattle.sequences.specs.Dates.{HappensByTicks, table_date}
 use Rattle.sequences.specs.Rows.{row_with}
 use Rattle.sequences.specs.Sequences.{rows_with}
-use Rattle.sequences.specs.Tables.{TableDated, held}
+use Rattle.sequences.specs.Tables.{TableDated}
 use Rattle.sequences.specs.Walks.{Impossible}
 use Rattle.sequences.specs.declared.refusals.TableRefusal.{TableRefusal}
-use Rattle.sequences.specs.declared.table.Table.{Table}
 use Rattle.sequences.specs.declared.refusals.CloseRefusal.{CloseRefusal}
 use Rattle.sequences.specs.declared.refusals.CloseRefusal.TheVariants as close
 use Rattle.sequences.specs.declared.row.Factor.{Factor}
 use Rattle.sequences.specs.declared.row.Row.{Row}
 use Rattle.sequences.proofs.Closings.{one_rows, keeps_date, never_closes, refused_exactly}
-use Rattle.sequences.proofs.Only.{close_apart}
 use Rattle.steps.specs.declared.refusal.StepRefusal.{StepRefusal}
 use Rattle.steps.specs.declared.refusal.StepRefusal.TheVariants as step
 use Rattle.derivation.specs.Model.{State, Answer, Opened, Stepped, ClosingAsks, RowsOf, Closed}
@@ -130,7 +128,7 @@ closed_one s old (Ok u) (Ok v) a b x y = (refl, x.1.each ∙ one_rows s.present 
 closed_one s old (Ok u) (Err f) a b x y = absurd (y.0.fails (x.0 f))
 closed_one s old (Err e) (Ok v) a b x y = absurd (x.0.fails (y.0 e))
 closed_one s old (Err e) (Err f) a b x y = (
-  ap Err (one_refusal {A = Unit {0}} close_code (ClosingAsks s) (λ _. Unit {0}) close_apart (λ g p q c d. refl) e f x.0 y.0),
+  ap Err (one_refusal {A = Unit {0}} close_code (ClosingAsks s) (λ _. Unit {0}) close_codes_differ (λ g p q c d. refl) e f x.0 y.0),
   x.1 ∙ sym y.1,
 )
 
@@ -159,7 +157,7 @@ lawful_closed h s old r new run c happen = record {
 }
 
 -- an answered date of the table is the same as that of the tree last opened
-pub table_dated_as : {D : Type 0} (K : Kind D) (ds : List D) (t : Table) (r : Result D TableRefusal) → TableDated K ds t r → (h : List Known) (s : State) (old : List Row) (text : List ℕ) → Run h s → Closed s old (Ok tt) (held t) → TreeText h text → DatedAs K ds text r
+pub table_dated_as : {D : Type 0} (K : Kind D) (ds : List D) (t : List Row) (r : Result D TableRefusal) → TableDated K ds t r → (h : List Known) (s : State) (old : List Row) (text : List ℕ) → Run h s → Closed s old (Ok tt) t → TreeText h text → DatedAs K ds text r
 table_dated_as K ds t (Ok p) o h s old text run c is =
-    subst (Same K (text_date K (dating_of K ds) text)) (sym o.1) (table_dates_lem K (dating_of K ds) h s (held t) run c.1 text is)
+    subst (Same K (text_date K (dating_of K ds) text)) (sym o.1) (table_dates_lem K (dating_of K ds) h s t run c.1 text is)
 table_dated_as K ds t (Err e) o h s old text run c is = tt

@@ -1,11 +1,10 @@
 // A bench: a tree is opened, its text rewritten step by step, and closed; and what a bench is asked meanwhile.
 ghost use Rattle.std.specs.Prelude.{◌≡◌, ℕ, List, [], ◌∷◌, length, OnErr, OnOk};
-ghost use Rattle.sequences.specs.Tables.{held};
-ghost use Rattle.trees.specs.Means.{Source};
+ghost use Rattle.trees.specs.Means.{Means, Source};
 ghost use Rattle.derivation.specs.Dating.{DatedAs, HandedOut, TextDated};
 ghost use Rattle.derivation.specs.Law.{Known, Lawful, Run, TreeText, closing, going, opening, stepping};
 ghost use Rattle.derivation.specs.Model.{Closed, Opened, Stepped, fresh};
-ghost use Rattle.derivation.specs.Views.{MeansOpen};
+ghost use Rattle.derivation.specs.Views.{open_tree};
 
 use dates::Date;
 use sequences::refusals::CloseRefusal;
@@ -60,7 +59,7 @@ impl Bench {
     // Opens a tree. Its source text is the one that its gates and triggers define.
     pub fn open(&mut self, tree: &[u8]) -> Result<(), TreeRefusal>
         ensures outcome { Opened self.old tree.now result self.new }
-        ensures meaning { OnOk result (MeansOpen tree.now self.new) }
+        ensures meaning { OnOk result (Means tree.now (open_tree self.new)) }
         ensures law { (h : List Known) → Run h self.old → Lawful (opening tree.now result ∷ h) self.new going }
     {
         let tree = read_tree(tree)?;
@@ -84,9 +83,9 @@ impl Bench {
 
     // Closes the present text into the table. The bench is used up, granted or not.
     pub fn close(self, table: &mut Table) -> Result<(), CloseRefusal>
-        ensures outcome { Closed self (held table.old) result (held table.new) }
+        ensures outcome { Closed self table.old result table.new }
         ensures left { OnErr result (table.new ≡ table.old) }
-        ensures law { (h : List Known) → Run h self → Lawful h self (closing (held table.old) result (held table.new)) }
+        ensures law { (h : List Known) → Run h self → Lawful h self (closing table.old result table.new) }
     {
         let derivation = self.derivation.ok_or(CloseRefusal::NoTree)?;
         table.close(derivation.present.as_bytes())

@@ -1,20 +1,21 @@
 // A whole job on the bytes of two files: open the tree, make the steps, close into the table.
 ghost use Rattle.std.specs.Prelude.{◌≡◌, List, OnErr};
-ghost use Rattle.sequences.specs.Tables.{held};
 ghost use Rattle.derivation.specs.Jobs.{Job, Made};
 ghost use Rattle.derivation.specs.Law.{Known, Run};
 ghost use Rattle.derivation.specs.declared.job.JobFault.TheVariants as fault;
 
 use crate::bench::Bench;
+use algebra::Refusal;
 use sequences::refusals::CloseRefusal;
 use sequences::table::Table;
+use std::error::Error;
 use std::fmt;
 use steps::file::{StepFault, at_step};
 use steps::records::Records;
 use trees::refusal::TreeRefusal;
 
 // Where a job was refused, and why.
-#[derive(Clone, Copy)]
+#[derive(Clone, Copy, Debug, PartialEq, Eq)]
 pub enum JobFault {
     Tree(TreeRefusal),
     Step(StepFault),
@@ -31,6 +32,8 @@ impl fmt::Display for JobFault {
         }
     }
 }
+
+impl Error for JobFault {}
 
 impl From<TreeRefusal> for JobFault {
     ghost from_gives = { λ e f. f ≡ fault.Tree e };
@@ -71,7 +74,7 @@ impl Bench {
 
 // Opens the tree, makes the steps of the file, and closes into the table. A refusal leaves the table as it was.
 pub fn derive(tree: &[u8], file: &[u8], table: &mut Table) -> Result<(), JobFault>
-    ensures job { Job tree.now file.now (held table.old) result (held table.new) }
+    ensures job { Job tree.now file.now table.old result table.new }
     ensures left { OnErr result (table.new ≡ table.old) }
 {
     let mut bench = Bench::new();

@@ -1,6 +1,5 @@
 use Rattle.std.proofs.Common.{◌≡◌, Some, Err, refl, ap, ◌∙◌}
 use Rattle.std.proofs.lemmas.Result.{err_from_is_err_and}
-use Rattle.sequences.specs.Tables.{held}
 use Rattle.sequences.specs.declared.refusals.CloseRefusal.TheVariants.{NoTree}
 use Rattle.derivation.specs.Model.{Closed, fresh}
 use Rattle.derivation.specs.Stands.{state_of}
@@ -15,9 +14,9 @@ returns-in_err-derivation c =
     let is = c.in_err-derivation.ensures in
     let p = err_from_is_err_and c.from_residual.result c.from_residual.ensures.1 in
     let why : c.from_residual.result ≡ Err NoTree = p.1 ∙ ap Err p.2 ∙ passed_on _ is.value is.ok_part in
-    let o : Closed fresh (held t) (Err NoTree) (held t) = (no_tree fresh refl, refl) in
+    let o : Closed fresh t (Err NoTree) t = (no_tree fresh refl, refl) in
     rw (why, at_once c.self.view_is is.ok_part)
-    (record { outcome = o; left = refl; law = λ h run. lawful_closed h fresh (held t) (Err NoTree) (held t) run o (happens_at t (Err NoTree) tt) })
+    (record { outcome = o; left = refl; law = λ h run. lawful_closed h fresh t (Err NoTree) t run o (happens_at t (Err NoTree) tt) })
 
 pub returns : goal.returns
 returns c =
@@ -25,6 +24,6 @@ returns c =
     let t = c.args.table.now in
     let t' = c.close.new.self in
     let is = c.close.ensures in
-    let o = closed_by s refl t t' c.close.result (rw c.as_bytes.ensures at is.outcome) is.left in
+    let o = closed_by s refl t t' c.close.result (rw c.as_bytes.ensures.bytes at is.outcome) is.left in
     rw (at_once c.self.view_is c.in_ok-derivation.ensures.ok_part)
-    (record { outcome = o; left = is.left; law = λ h run. lawful_closed h s (held t) c.close.result (held t') run o (happens_at t' c.close.result is.happen) })
+    (record { outcome = o; left = is.left; law = λ h run. lawful_closed h s t c.close.result t' run o (happens_at t' c.close.result is.happen) })

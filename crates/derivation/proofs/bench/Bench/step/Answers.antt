@@ -2,7 +2,6 @@ use Rattle.std.proofs.Common.{◌≡◌, true, false, Some, Ok, Err, sym, refl, 
 use borrow.Author.Tests.{both_ways}
 use Rattle.std.specs.Option.{option_copied_mut}
 use Rattle.std.proofs.lemmas.Result.{err_from_is_err_and}
-use Rattle.texts.specs.Held.{used}
 use Rattle.steps.specs.declared.refusal.StepRefusal.TheVariants.{NoTree}
 use Rattle.derivation.specs.Model.{Stepped, fresh, moved}
 use Rattle.derivation.specs.Stands.{state_of}
@@ -38,14 +37,14 @@ invariant_of-self-2 c =
     let some = sym c.as_mut.ensures.value ∙ ap option_copied_mut c.in_ok-derivation.ensures.ok_part in
     let was = rw some at c.self.invariant in
     let is = c.in_ok-text.ensures in
-    let o = answer_with_tree (s.opened ≡ true) s.present s.events bs refl (Ok (used c.in_ok-text.text)) is.answer in
-    stepped_stands s bs (used c.in_ok-text.text) was (o.0, o.1, refl) (is.whole was.present.whole) (is.derived _ was.reached)
+    let o = answer_with_tree (s.opened ≡ true) s.present s.events bs refl (Ok c.in_ok-text.text) is.answer in
+    stepped_stands s bs c.in_ok-text.text was (o.0, o.1, refl) (is.whole was.present.whole) (is.derived _ was.reached)
 
 pub returns : goal.returns
 returns c =
     let bs = c.args.bytes.now in
     let s = state_of (Some c.in_ok-derivation.derivation.now) in
     let some = sym c.as_mut.ensures.value ∙ ap option_copied_mut c.in_ok-derivation.ensures.ok_part in
-    let w = answer_with_tree (s.opened ≡ true) s.present s.events bs refl (Ok (used c.in_ok-text.text)) c.in_ok-text.ensures.answer in
-    let o : Stepped s bs (Ok tt) (moved s (used c.in_ok-text.text)) = (w.0, w.1, refl) in
+    let w = answer_with_tree (s.opened ≡ true) s.present s.events bs refl (Ok c.in_ok-text.text) c.in_ok-text.ensures.answer in
+    let o : Stepped s bs (Ok tt) (moved s c.in_ok-text.text) = (w.0, w.1, refl) in
     rw (at_once c.self.view_is some) (record { outcome = o; law = law_step s _ bs (Ok tt) o })
