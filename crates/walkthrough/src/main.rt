@@ -7,7 +7,7 @@ use holds::drop_under_hold;
 use std::{fs, io};
 use terms::date_at;
 use trees::reader::{Tree, read_tree};
-use words::{When, letter, shown, why_no_tree, why_not};
+use words::{When, letter, shown, why_no_tree};
 
 mod holds;
 mod terms;
@@ -23,18 +23,12 @@ const CUSTODIAN: u8 = 1;
 
 // The bytes of a file; one that cannot be read counts as empty.
 fn file(rt: &HostRuntime, name: &str) -> Vec<u8> {
-    match fs::read(rt, name) {
-        Ok(bytes) => bytes,
-        Err(_) => Vec::new(rt.alloc()),
-    }
+    fs::read(rt, name).unwrap_or_else(|_| Vec::new(rt.alloc()))
 }
 
 // The tick of four bytes, as it is told; bytes that are no date are told as never, and the log refuses them.
 fn told(bytes: &[u8]) -> When {
-    match Tick::read(bytes) {
-        Some(tick) => When(tick),
-        None => When(Tick::never()),
-    }
+    When(Tick::read(bytes).unwrap_or(Tick::never()))
 }
 
 // Enters what `entries.bin` holds: for each entry an event and four bytes of date.
@@ -49,8 +43,7 @@ fn tell_entries(rt: &HostRuntime, log: &mut Log<Tick>, bytes: &[u8]) -> io::Resu
             Ok(()) => println!(rt; "entry: {name} at {when}")?,
             Err(refusal) => {
                 let code = refusal.code();
-                let why = why_not(refusal);
-                println!(rt; "entry: {name} at {when}, refused with {code}: {why}")?
+                println!(rt; "entry: {name} at {when}, refused with {code}: {refusal}")?
             }
         }
     }
@@ -63,8 +56,7 @@ fn tell_drop(rt: &HostRuntime, dropped: Result<(), LogRefusal>, kept: usize) -> 
         Ok(()) => println!(rt; "  granted, {kept} entries are kept"),
         Err(refusal) => {
             let code = refusal.code();
-            let why = why_not(refusal);
-            println!(rt; "  refused with {code}: {why}; {kept} entries are kept")
+            println!(rt; "  refused with {code}: {refusal}; {kept} entries are kept")
         }
     }
 }
