@@ -1,13 +1,14 @@
 // Tells how a date of loss comes about: from a tree and a log of failures, term by term.
 #![tactic(auto)]
 
+use algebra::Refusal;
 use dates::{Date, Tick};
 use failure_log::{Entry, Log, LogRefusal};
 use holds::drop_under_hold;
 use std::{fs, io};
 use terms::date_at;
 use trees::reader::{Tree, read_tree};
-use words::{When, letter, shown, why_no_tree};
+use words::{letter, shown, why_no_tree};
 
 mod holds;
 mod terms;
@@ -27,8 +28,8 @@ fn file(rt: &HostRuntime, name: &str) -> Vec<u8> {
 }
 
 // The tick of four bytes, as it is told; bytes that are no date are told as never, and the log refuses them.
-fn told(bytes: &[u8]) -> When {
-    When(Tick::read(bytes).unwrap_or(Tick::never()))
+fn told(bytes: &[u8]) -> Tick {
+    Tick::read(bytes).unwrap_or(Tick::never())
 }
 
 // Enters what `entries.bin` holds: for each entry an event and four bytes of date.
@@ -88,8 +89,7 @@ fn tell_terms(rt: &HostRuntime, text: &[u8], dating: &[Tick]) -> io::Result<()> 
             return println!(rt; "place {place}: no term");
         };
         let term = shown(&text[place..end]);
-        let when = When(tick);
-        println!(rt; "place {place}: {term} is dated {when}")?;
+        println!(rt; "place {place}: {term} is dated {tick}")?;
     }
     Ok(())
 }
@@ -100,8 +100,7 @@ fn tell_dates(rt: &HostRuntime, log: &Log<Tick>, tree: &Tree) -> io::Result<()> 
     for event in 0..tree.events {
         let name = letter(event);
         if let Ok(tick) = log.date_of(event) {
-            let when = When(tick);
-            println!(rt; "event {name} is dated {when}")?;
+            println!(rt; "event {name} is dated {tick}")?;
         }
     }
     tell_terms(rt, tree.source.as_bytes(), &dating)
