@@ -5,10 +5,11 @@ use algebra::Refusal;
 use dates::{Date, Tick};
 use failure_log::{Entry, Log, LogRefusal};
 use holds::drop_under_hold;
+use std::rt::Files;
 use std::{fs, io};
 use terms::date_at;
 use trees::reader::{Tree, read_tree};
-use words::{letter, shown, why_no_tree};
+use words::{letter, shown};
 
 mod holds;
 mod terms;
@@ -23,7 +24,7 @@ const LOG: u8 = 7;
 const CUSTODIAN: u8 = 1;
 
 // The bytes of a file; one that cannot be read counts as empty.
-fn file(rt: &HostRuntime, name: &str) -> Vec<u8> {
+fn file(rt: &(impl Files + AllocGlobal), name: &str) -> Vec<u8> {
     fs::read(rt, name).unwrap_or_else(|_| Vec::new(rt.alloc()))
 }
 
@@ -33,7 +34,7 @@ fn told(bytes: &[u8]) -> Tick {
 }
 
 // Enters what `entries.bin` holds: for each entry an event and four bytes of date.
-fn tell_entries(rt: &HostRuntime, log: &mut Log<Tick>, bytes: &[u8]) -> io::Result<()> {
+fn tell_entries(rt: &impl Print, log: &mut Log<Tick>, bytes: &[u8]) -> io::Result<()> {
     for one in bytes.chunks(5) {
         let [event, date @ ..] = one else {
             return Ok(());
@@ -52,7 +53,7 @@ fn tell_entries(rt: &HostRuntime, log: &mut Log<Tick>, bytes: &[u8]) -> io::Resu
 }
 
 // What came of a drop.
-fn tell_drop(rt: &HostRuntime, dropped: Result<(), LogRefusal>, kept: usize) -> io::Result<()> {
+fn tell_drop(rt: &impl Print, dropped: Result<(), LogRefusal>, kept: usize) -> io::Result<()> {
     match dropped {
         Ok(()) => println!(rt; "  granted, {kept} entries are kept"),
         Err(refusal) => {
@@ -63,7 +64,7 @@ fn tell_drop(rt: &HostRuntime, dropped: Result<(), LogRefusal>, kept: usize) -> 
 }
 
 // A drop while a hold stands, and again after it is lifted.
-fn tell_holds(rt: &HostRuntime, log: &mut Log<Tick>, bytes: &[u8]) -> io::Result<()> {
+fn tell_holds(rt: &impl Print, log: &mut Log<Tick>, bytes: &[u8]) -> io::Result<()> {
     let when = told(bytes);
     println!(rt; "custodian {CUSTODIAN} holds the log; drop before {when}:")?;
     match drop_under_hold(log, CUSTODIAN, bytes) {
@@ -82,7 +83,7 @@ fn tell_holds(rt: &HostRuntime, log: &mut Log<Tick>, bytes: &[u8]) -> io::Result
 }
 
 // Each term of the text from the inside out with its date, and then that of the whole.
-fn tell_terms(rt: &HostRuntime, text: &[u8], dating: &[Tick]) -> io::Result<()> {
+fn tell_terms(rt: &impl Print, text: &[u8], dating: &[Tick]) -> io::Result<()> {
     let mut work = [Tick::never(); 256];
     for place in (0..text.len()).rev() {
         let Some((end, tick)) = date_at(text, place, dating, &mut work) else {
@@ -95,7 +96,7 @@ fn tell_terms(rt: &HostRuntime, text: &[u8], dating: &[Tick]) -> io::Result<()> 
 }
 
 // The log's dates of the tree's events, and the dates of its terms.
-fn tell_dates(rt: &HostRuntime, log: &Log<Tick>, tree: &Tree) -> io::Result<()> {
+fn tell_dates(rt: &impl Print, log: &Log<Tick>, tree: &Tree) -> io::Result<()> {
     let dating = log.dating();
     for event in 0..tree.events {
         let name = letter(event);
@@ -106,7 +107,7 @@ fn tell_dates(rt: &HostRuntime, log: &Log<Tick>, tree: &Tree) -> io::Result<()> 
     tell_terms(rt, tree.source.as_bytes(), &dating)
 }
 
-fn tell_tree(rt: &HostRuntime, tree: &Tree) -> io::Result<()> {
+fn tell_tree(rt: &impl Print, tree: &Tree) -> io::Result<()> {
     let events = tree.events;
     let text = shown(tree.source.as_bytes());
     println!(rt; "the tree has {events} events, and its text is {text}")
@@ -117,8 +118,7 @@ fn main(rt: HostRuntime) -> io::Result<()> {
     match read_tree(bytes.as_slice()) {
         Err(refusal) => {
             let code = refusal.code();
-            let why = why_no_tree(refusal);
-            println!(rt; "tree.bin is refused with {code}: {why}")
+            println!(rt; "tree.bin is refused with {code}: {refusal}")
         }
         Ok(tree) => {
             tell_tree(&rt, &tree)?;

@@ -1,8 +1,7 @@
 use Rattle.std.proofs.Common.{◌≡◌, ℕ, ◌<◌, List, ◌++◌, length, drop, true, is_ok, sym, refl, subst}
 use Rattle.algebra.specs.Texts.{text_of}
 use Rattle.algebra.proofs.Bytes.{every_place}
-use Rattle.texts.proofs.Evaluations.{granted}
-use Rattle.walkthrough.proofs.Parts.{part_text, answered}
+use Rattle.walkthrough.proofs.Parts.{part_text, dated}
 use Rattle.walkthrough.proofs.terms.date_at.Goals as goal
 
 pub returns-in_err-end : goal.returns-in_err-end
@@ -21,5 +20,5 @@ returns-in_err-end g c =
 pub returns-in_err-date-clause-all : goal.returns-in_err-date-clause-all
 returns-in_err-date-clause-all g c w low e wide =
     let part = part_text c.args.text.now c.args.place c.in_ok-end.ensures.0 c.in_ok-end.end c.in_ok-end.ensures.1 w in
-    let dated : is_ok c.evaluate.result ≡ true = answered _ _ _ c.evaluate.result (granted _ c.args.dating.now (length c.args.work.now) part e wide) c.evaluate.ensures.outcome in
+    let found = dated g.D.Date.kind _ c.args.dating.now (length c.args.work.now) c.evaluate.result part e wide c.evaluate.ensures.outcome in
     cc c.in_err-date.ensures.variant
