@@ -1,4 +1,5 @@
 // Steps, run: each rule both ways, the longest texts, each refusal, and files of steps.
+use algebra::Refusal;
 use std::alloc::{AllocError, Global};
 use std::process::Abort;
 use std::test::Fail;
@@ -9,29 +10,22 @@ use texts::text::Text;
 
 fn text_of(rt: &impl Abort, bytes: &[u8]) -> Text {
     let mut text = Text::empty();
-    assert!(rt; text.append(bytes));
+    assert!(rt; text.append(bytes).is_ok());
     text
 }
 
 // The step of the record leads from one text to the other, in a tree with three events.
 fn leads(rt: &impl Abort, old: &[u8], bytes: &[u8], new: &[u8]) -> Result<(), Fail> {
     let text = text_of(rt, old);
-    match apply_step(&text, 3, bytes) {
-        Ok(made) => {
-            assert!(rt; made.as_bytes() == new);
-            Ok(())
-        },
-        Err(refusal) => Err(Fail::new(refusal.code())),
-    }
+    let made = apply_step(&text, 3, bytes)?;
+    assert!(rt; made.as_bytes() == new);
+    Ok(())
 }
 
 // The number of the refusal of a step, or 0.
 fn code_of(rt: &impl Abort, old: &[u8], bytes: &[u8]) -> u8 {
     let text = text_of(rt, old);
-    match apply_step(&text, 3, bytes) {
-        Ok(_) => 0,
-        Err(refusal) => refusal.code(),
-    }
+    apply_step(&text, 3, bytes).map_or_else(|refusal| refusal.code(), |_| 0)
 }
 
 #[test]
@@ -266,11 +260,6 @@ fn lacks(old: &[u8], new: &[u8], letter: u8) -> bool {
     new.contains(&letter) && !old.contains(&letter)
 }
 
-// The bit, where it stands.
-fn bit(stands: bool, value: u8) -> u8 {
-    if stands { value } else { 0 }
-}
-
 // The record of a step at the place 0 that leads from one side to the other.
 fn record_of(
     heap: Global,
@@ -279,19 +268,16 @@ fn record_of(
     old: &[u8],
     new: &[u8],
 ) -> Result<Vec<u8>, AllocError> {
-    let x = lacks(old, new, b'a');
-    let y = lacks(old, new, b'b');
-    let z = lacks(old, new, b'c');
-    let mut bytes = [3 | bit(x, 8) | bit(y, 16) | bit(z, 32), rule, way].to_vec(heap)?;
-    if x {
-        bytes.extend_from_slice(&[1, b'a'])?;
+    let mut map = 3;
+    let mut terms = Vec::new(heap);
+    for (letter, bit) in [(b'a', 8), (b'b', 16), (b'c', 32)] {
+        if lacks(old, new, letter) {
+            map |= bit;
+            terms.extend_from_slice(&[1, letter])?;
+        }
     }
-    if y {
-        bytes.extend_from_slice(&[1, b'b'])?;
-    }
-    if z {
-        bytes.extend_from_slice(&[1, b'c'])?;
-    }
+    let mut bytes = [map, rule, way].to_vec(heap)?;
+    bytes.extend_from_slice(terms.as_slice())?;
     Ok(bytes)
 }
 
@@ -309,9 +295,7 @@ fn each_rule_both_ways(rt: HostRuntime) -> Result<(), Fail> {
 // 128 times + and then only a: one whole term of 257 bytes, and one of 255 without its ends.
 fn long_sum() -> [u8; 257] {
     let mut bytes = [b'a'; 257];
-    for i in 0..128 {
-        bytes[i] = b'+';
-    }
+    bytes[..128].fill(b'+');
     bytes
 }
 
@@ -320,9 +304,7 @@ fn the_longest_text(rt: HostRuntime) -> Result<(), Fail> {
     let sum = long_sum();
     let short = &sum[1..256];
     let text = text_of(&rt, short);
-    let Ok(made) = apply_step(&text, 1, &[3, 3, 1]) else {
-        return Err(Fail::new("refused"));
-    };
+    let made = apply_step(&text, 1, &[3, 3, 1])?;
     let bytes = made.as_bytes();
     assert!(rt; bytes.len() == 511);
     assert!(rt; bytes[0] == b'+' && &bytes[1..256] == short && &bytes[256..511] == short);
@@ -396,18 +378,12 @@ fn each_other_refusal(rt: HostRuntime) -> Result<(), Fail> {
 fn a_file_of_steps(rt: HostRuntime) -> Result<(), Fail> {
     let file = [0, 4, 0x05, 0x0c, 0, 2, 0, 2, 0x01, 0x09, 0, 2, 0x01, 3];
     let text = text_of(&rt, b"*b[ab");
-    let Ok(made) = apply_steps(text, 2, &file[0..10]) else {
-        return Err(Fail::new("refused"));
-    };
+    let made = apply_steps(text, 2, &file[..10])?;
     assert!(rt; made.as_bytes() == b"+*b<ab*b=ab".as_slice());
-    let Err(fault) = apply_steps(text, 2, &file) else {
-        return Err(Fail::new("granted"));
-    };
+    let fault = apply_steps(text, 2, &file).err().ok_or("granted")?;
     assert_eq!(rt; fault.step, 3);
     assert_eq!(rt; fault.refusal.code(), 15);
-    let Err(fault) = apply_steps(text, 2, &file[0..9]) else {
-        return Err(Fail::new("granted"));
-    };
+    let fault = apply_steps(text, 2, &file[..9]).err().ok_or("granted")?;
     assert_eq!(rt; fault.step, 2);
     assert_eq!(rt; fault.refusal.code(), 12);
     Ok(())
@@ -415,13 +391,9 @@ fn a_file_of_steps(rt: HostRuntime) -> Result<(), Fail> {
 
 #[test]
 fn the_records_of_a_file(rt: HostRuntime) -> Result<(), Fail> {
-    let Ok(Some((bytes, rest))) = next_record(&[0, 1, 7, 0]) else {
-        return Err(Fail::new("no record"));
-    };
+    let (bytes, rest) = next_record(&[0, 1, 7, 0])?.ok_or("no record")?;
     assert!(rt; bytes == [7].as_slice() && rest == [0].as_slice());
     assert!(rt; next_record(rest).is_err());
-    let Ok(None) = next_record(&[]) else {
-        return Err(Fail::new("no end"));
-    };
+    assert!(rt; next_record(&[])?.is_none());
     Ok(())
 }

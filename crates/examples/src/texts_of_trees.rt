@@ -1,28 +1,20 @@
 // The reader of trees on examples.
+use algebra::Refusal;
 use trees::reader::read_tree;
 
 // The number of the refusal, or 0 for a grant.
 fn refusal(bytes: &[u8]) -> u8 {
-    match read_tree(bytes) {
-        Ok(_) => 0,
-        Err(refusal) => refusal.code(),
-    }
+    read_tree(bytes).map_or_else(|refusal| refusal.code(), |_| 0)
 }
 
 // The tree is granted with that many events and that source text.
 fn gives(bytes: &[u8], events: u8, text: &[u8]) -> bool {
-    match read_tree(bytes) {
-        Ok(tree) => tree.events == events && tree.source.as_bytes() == text,
-        Err(_) => false,
-    }
+    read_tree(bytes).is_ok_and(|tree| tree.events == events && tree.source.as_bytes() == text)
 }
 
 // The length of the source text, or 0 for a refusal.
 fn length(bytes: &[u8]) -> usize {
-    match read_tree(bytes) {
-        Ok(tree) => tree.source.as_bytes().len(),
-        Err(_) => 0,
-    }
+    read_tree(bytes).map_or(0, |tree| tree.source.as_bytes().len())
 }
 
 #[test]
