@@ -1,4 +1,4 @@
-use Rattle.std.proofs.Common.{◌≡◌, ℕ, ◌<◌, List, ◌++◌, length, drop, true, is_ok, sym, refl, subst}
+use Rattle.std.proofs.Common.{◌≡◌, ℕ, ◌<◌, List, ◌++◌, length, drop, sym, refl, subst}
 use Rattle.algebra.specs.Texts.{text_of}
 use Rattle.algebra.proofs.Bytes.{every_place}
 use Rattle.walkthrough.proofs.Parts.{part_text, dated}
