@@ -94,6 +94,7 @@ impl Line {
         requires { length (spelt self.old (map Letter (sifted 24 (λ v. listed row.now v)))) ≤ 512 }
         ensures { self.new ≡ spelt self.old (map Letter (sifted 24 (λ v. listed row.now v))) }
     {
+        // The test stands in the loop: as a filter it would be a closure over a reference to the letter, in as many lines.
         for v in 0..24 {
             if member(row.letters, v) {
                 self.put(Factor::Letter(v));
@@ -106,6 +107,7 @@ impl Line {
         requires { length (spelt self.old (paired (Pair sign) 24 (λ v w. stands sign row.now v w))) ≤ 512 }
         ensures { self.new ≡ spelt self.old (paired (Pair sign) 24 (λ v w. stands sign row.now v w)) }
     {
+        // Two loops with a test say the order plainly: as one chain they would be a map in a map, and a filter over pairs.
         for v in 0..24 {
             for w in 0..24 {
                 if printed(row, sign, v, w) {
