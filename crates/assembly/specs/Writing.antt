@@ -1,7 +1,8 @@
 -- What a step record is written from: its fields, and what can be said at all.
 -- Assumes nothing.
-use Rattle.std.specs.Prelude.{◌≡◌, ℕ, ◌+◌, ◌<◌, ◌≤◌, Bool, cond, List, ◌++◌, length, Some, None, All, Option, ◌==◌}
+use Rattle.std.specs.Prelude.{◌≡◌, ℕ, ◌+◌, ◌<◌, ◌≤◌, Bool, cond, List, [], ◌∷◌, ◌++◌, length, Some, None, All, Option, ◌==◌}
 use Rattle.algebra.specs.declared.Variable.{Variable}
+use Rattle.algebra.specs.declared.Variable.TheVariants.{X, Y, Z}
 use Rattle.algebra.specs.declared.Way.{Way}
 use Rattle.algebra.specs.declared.Way.TheVariants.{Forward, Backward}
 use Rattle.steps.specs.Records.{Field, the_rule, the_way, the_place, the_term, Written, WholeTerm, Request, supplied_for}
@@ -17,6 +18,10 @@ place_field p = cond (p == 0) None (Some (the_place p))
 abbrev pub term_field : Variable → Option (List ℕ) → Option Field
 term_field v None = None
 term_field v (Some t) = Some (the_term v t)
+
+-- the fields beside the rule, in order, where each stands
+abbrev pub fields_of : Request → List (Option Field)
+fields_of q = way_field q.way ∷ place_field q.place ∷ term_field X q.x ∷ term_field Y q.y ∷ term_field Z q.z ∷ []
 
 -- the bytes of the field were added, whatever stands after them
 pub record Added (f : Field) (old new : List ℕ) : Type 0 where
@@ -62,3 +67,8 @@ Bytes bs = All (λ b. b < 256) bs
 -- the map byte of a record that has a rule, and of the other fields those that are flagged
 abbrev pub map_of : Bool → Bool → Bool → Bool → Bool → ℕ
 map_of way place x y z = 1 + (cond way 2 0 + (cond place 4 0 + (cond x 8 0 + (cond y 16 0 + cond z 32 0))))
+
+-- the same from the flags of the fields beside the rule, in order
+abbrev pub map_of_all : List Bool → ℕ
+map_of_all (way ∷ place ∷ x ∷ y ∷ z ∷ []) = map_of way place x y z
+map_of_all _ = 1

@@ -17,8 +17,8 @@ fn framed(heap: Global, bytes: &[u8]) -> Result<Vec<u8>, AllocError>
     requires { length bytes.now < 65536 }
     ensures { IfOk result (λ v. Begins v.items bytes.now []) }
 {
-    let size = bytes.len();
-    let mut out = Vec::from_slice(heap, &[(size / 256) as u8, (size % 256) as u8])?;
+    let size = bytes.len() as u16;
+    let mut out = Vec::from_slice(heap, &size.to_be_bytes())?;
     out.extend_from_slice(bytes)?;
     Ok(out)
 }
@@ -43,8 +43,6 @@ pub fn add_step(
     ensures left { OnErr result (file.new.items ≡ file.old.items) }
 {
     let more = one_step(heap, events, said)?;
-    match file.extend_from_slice(more.as_slice()) {
-        Ok(()) => Ok(()),
-        Err(_) => Err(BytesFault::Memory),
-    }
+    file.extend_from_slice(more.as_slice())?;
+    Ok(())
 }

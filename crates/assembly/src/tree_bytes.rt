@@ -1,19 +1,16 @@
 // The bytes of a tree, written from its records, and the records read back.
 ghost use Rattle.std.specs.Prelude.{◌≡◌, ℕ, List, ◌∷◌, IfOk, MatchResult};
-ghost use Rattle.trees.specs.Records.{fields, kind_of};
+ghost use Rattle.trees.specs.Records.{fields};
 ghost use Rattle.trees.specs.declared.record.Record.{Record as TreeRecord};
 ghost use Rattle.assembly.specs.Faults.{WhereNone};
 ghost use Rattle.assembly.specs.Layouts.{Lays, MeansAsLaid, OneLayout, RecordsLie};
 
 use crate::fault::BytesFault;
 use std::alloc::Global;
-use trees::record::{Gate, Record, read_record};
+use trees::record::{Record, read_record};
 
 // The map byte of a record that has all its fields.
 const ALL_FIELDS: u8 = 0b111;
-
-// The kind of an FDEP.
-const FDEP: u8 = 4;
 
 // How many events a tree has, and its records in order.
 #[derive(Drop)]
@@ -22,29 +19,11 @@ pub struct Layout {
     pub records: Vec<Record>,
 }
 
-fn kind_of(gate: Gate) -> u8
-    ensures { result ≡ kind_of gate }
-{
-    match gate {
-        Gate::Or => 0,
-        Gate::And => 1,
-        Gate::Pand => 2,
-        Gate::Before => 3,
-    }
-}
-
 // The bytes of a record, with all its fields.
 fn record_bytes(one: Record) -> [u8; 4]
     ensures { result ≡ 7 ∷ fields one }
 {
-    match one {
-        Record::Joins {
-            gate,
-            first,
-            second,
-        } => [ALL_FIELDS, kind_of(gate), first, second],
-        Record::Triggers { trigger, dependent } => [ALL_FIELDS, FDEP, trigger, dependent],
-    }
+    [ALL_FIELDS, u8::from(one.kind()), one.first(), one.second()]
 }
 
 // The bytes of a tree. It has none where there are more records than one byte can count. They are read back as the same
@@ -54,9 +33,7 @@ pub fn write_tree(heap: Global, events: u8, records: &[Record]) -> Result<Vec<u8
     ensures back { IfOk result (λ v. OneLayout v.items) }
     ensures meaning { IfOk result (λ v. MeansAsLaid v.items events records.now) }
 {
-    let Ok(count) = u8::try_from(records.len()) else {
-        return Err(BytesFault::NoForm);
-    };
+    let count = u8::try_from(records.len()).map_err(|_| BytesFault::NoForm)?;
     let mut bytes = Vec::from_slice(heap, &[events, count])?;
     for one in records {
         bytes.extend_from_slice(&record_bytes(*one))?;
@@ -71,9 +48,7 @@ fn read_records(heap: Global, count: u8, bytes: &[u8]) -> Result<Vec<Record>, By
     let mut records = Vec::new(heap);
     let mut rest = bytes;
     for k in 0..count {
-        let Ok((one, after)) = read_record(rest) else {
-            return Err(BytesFault::NoForm);
-        };
+        let (one, after) = read_record(rest)?;
         records.push(one)?;
         rest = after;
     }
