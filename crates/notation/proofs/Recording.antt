@@ -4,10 +4,11 @@ use Rattle.std.proofs.Common.{◌≡◌, ℕ, cond, eqb, List, [], ◌∷◌, ma
 use Rattle.std.proofs.lemmas.List.{length-map}
 use Rattle.trees.specs.declared.record.Gate.TheVariants.{Or, And, Pand, Before}
 use Rattle.trees.specs.declared.record.Record.{Record}
-use Rattle.notation.specs.declared.records.Kind.{Kind}
-use Rattle.notation.specs.declared.records.Kind.TheVariants.{Joins, Triggers}
+use Rattle.trees.specs.declared.record.Kind.{Kind}
+use Rattle.trees.specs.declared.record.Kind.TheVariants.{Joins, Triggers}
 use Rattle.notation.specs.Inputs.{Names}
-use Rattle.notation.specs.Records.{kind_word, record_of, RecordWords, OneRecord}
+use Rattle.notation.specs.Records.{kind_word, RecordWords, OneRecord}
+use Rattle.trees.specs.Records.{record_of}
 use Rattle.notation.proofs.Naming.{one_name}
 
 -- the kind by the first letter of its word

@@ -6,12 +6,11 @@ ghost use Rattle.notation.specs.Numbers.{Number};
 use crate::numbers::read_byte;
 use std::alloc::{AllocError, Global};
 
-// How many events have a letter, and how many inputs are events; the other inputs are gates.
+// How many events have a letter.
 const LETTERS: u8 = 24;
 
+// How many inputs are events; the others are gates.
 const EVENTS: u8 = 64;
-
-const GATES: u8 = 192;
 
 // The event of a letter.
 fn read_letter(letter: u8) -> Option<u8>
@@ -27,16 +26,14 @@ fn read_letter(letter: u8) -> Option<u8>
 fn read_below(digits: &[u8], limit: u8) -> Option<u8>
     ensures { MatchOption result ((n : ℕ) → n < limit → Number digits.now n → ⊥) (λ n. (n < limit) × Number digits.now n) }
 {
-    let number = read_byte(digits)?;
-    if number < limit { Some(number) } else { None }
+    read_byte(digits).filter(|number| *number < limit)
 }
 
 // The input that is the gate of a record.
 fn read_gate(digits: &[u8]) -> Option<u8>
     ensures { MatchOption result ((k : ℕ) → k < 192 → Number digits.now k → ⊥) (λ i. (k : ℕ) × (k < 192) × Number digits.now k × (i ≡ 64 + k)) }
 {
-    let record = read_below(digits, GATES)?;
-    Some(EVENTS + record)
+    EVENTS.checked_add(read_byte(digits)?)
 }
 
 // The input that a word names.
@@ -58,9 +55,8 @@ fn letter_word(heap: Global, event: u8) -> Result<String, AllocError>
     requires { event < 24 }
     ensures { IfOk result (λ w. string_bytes w ≡ (97 + event) ∷ []) }
 {
-    let mut word = String::new(heap);
-    word.push((b'a' + event) as char)?;
-    Ok(word)
+    let letter = char::from(b'a' + event);
+    format!(in heap; "{letter}")
 }
 
 // The word of an input: the letter of an event that has one, or else its number after an e, or that of a record after a g.

@@ -21,4 +21,4 @@ returns c =
     said _ _ _ c.in_ok-kind.kind c.in_ok-first.first c.in_ok-second.second _ c.in_ok-kind.ensures
     (subst (λ (w : List ℕ). Names w c.in_ok-first.first) c.as_bytes.ensures.value c.in_ok-first.ensures.named)
     (subst (λ (w : List ℕ). Names w c.in_ok-second.second) c.as_bytes-2.ensures.value c.in_ok-second.ensures.named)
-    c.record_of.ensures
+    c.new.ensures
