@@ -1,7 +1,8 @@
 // The bytes of a tree, written from its records, and the records read back.
-ghost use Rattle.std.specs.Prelude.{◌≡◌, ℕ, List, ◌∷◌, IfOk, MatchResult};
+ghost use Rattle.std.specs.Prelude.{◌≡◌, ℕ, ◌<◌, List, ◌∷◌, length, IfErr, IfOk, MatchResult};
 ghost use Rattle.trees.specs.Records.{fields};
 ghost use Rattle.trees.specs.declared.record.Record.{Record as TreeRecord};
+ghost use Rattle.assembly.specs.declared.fault.BytesFault.TheVariants.{NoForm};
 ghost use Rattle.assembly.specs.Faults.{WhereNone};
 ghost use Rattle.assembly.specs.Layouts.{Lays, MeansAsLaid, OneLayout, RecordsLie};
 
@@ -30,6 +31,7 @@ fn record_bytes(one: Record) -> [u8; 4]
 // records, and mean the same tree as any other bytes of these records.
 pub fn write_tree(heap: Global, events: u8, records: &[Record]) -> Result<Vec<u8>, BytesFault>
     ensures written { MatchResult result (λ v. Lays v.items events records.now) (λ e. WhereNone e ((bs : List ℕ) → Lays bs events records.now → ⊥)) }
+    ensures many { IfErr result (λ e. e ≡ NoForm → 255 < length records.now) }
     ensures back { IfOk result (λ v. OneLayout v.items) }
     ensures meaning { IfOk result (λ v. MeansAsLaid v.items events records.now) }
 {

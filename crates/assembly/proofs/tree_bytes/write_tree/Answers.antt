@@ -17,4 +17,4 @@ returns c =
     let count : c.in_ok-count.count ≡ length rs = search rules in
     let lays = written_all c.args.events c.in_ok-count.count rs (vec_items c.loop-one.bytes)
     (subst (λ (n : ℕ). Underway c.args.events c.in_ok-count.count rs n (vec_items c.loop-one.bytes)) all c.loop-one.invariant) (omega arith) (omega arith) in
-    record { written = lays; back = one_layout _; meaning = means_as_laid _ c.args.events rs lays }
+    record { written = lays; many = tt; back = one_layout _; meaning = means_as_laid _ c.args.events rs lays }
