@@ -3,6 +3,8 @@
 
 use job::Job;
 use notation::words::split_words;
+use std::alloc::Global;
+use std::rt::Files;
 use std::{env, fs, io};
 
 mod job;
@@ -16,11 +18,11 @@ fn before_comment(line: &str) -> &str {
 }
 
 // Reads the lines of a job one after another. The first that cannot be read is told with its number.
-fn read_job(rt: &HostRuntime, text: &str) -> io::Result<Option<Job>> {
-    let mut job = Job::new(rt.alloc());
+fn read_job(rt: &impl Print, alloc: Global, text: &str) -> io::Result<Option<Job>> {
+    let mut job = Job::new(alloc);
     for (number, line) in (1usize..).zip(text.lines()) {
-        let words = split_words(rt.alloc(), before_comment(line))?;
-        if let Err(fault) = job.add_line(rt.alloc(), words.as_slice()) {
+        let words = split_words(alloc, before_comment(line))?;
+        if let Err(fault) = job.add_line(alloc, words.as_slice()) {
             println!(rt; "line {number}: {fault}")?;
             return Ok(None);
         }
@@ -29,8 +31,8 @@ fn read_job(rt: &HostRuntime, text: &str) -> io::Result<Option<Job>> {
 }
 
 // Writes the two files of a job.
-fn write_job(rt: &HostRuntime, job: &Job) -> io::Result<()> {
-    let tree = match job.tree_bytes(rt.alloc()) {
+fn write_job(rt: &(impl Files + Print), alloc: Global, job: &Job) -> io::Result<()> {
+    let tree = match job.tree_bytes(alloc) {
         Ok(tree) => tree,
         Err(fault) => return println!(rt; "{fault}"),
     };
@@ -47,8 +49,8 @@ fn main(rt: HostRuntime) -> io::Result<()> {
         Some(name) => fs::read_to_string(&rt, name.as_str())?,
         None => fs::read_to_string(&rt, TEXT)?,
     };
-    match read_job(&rt, text.as_str())? {
-        Some(job) => write_job(&rt, &job),
+    match read_job(&rt, rt.alloc(), text.as_str())? {
+        Some(job) => write_job(&rt, rt.alloc(), &job),
         None => Ok(()),
     }
 }

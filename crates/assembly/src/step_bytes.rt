@@ -113,17 +113,14 @@ fn encode(heap: Global, said: &StepRecord<'_>) -> Result<Vec<u8>, AllocError>
 fn is_rule(rule: u8) -> bool
     ensures { Decides result ((1 ≤ rule) × (rule ≤ 42)) }
 {
-    1 <= rule && rule <= 42
+    (1..=42).contains(&rule)
 }
 
 // Whether a supplied term can be written: it is whole, has letters among the events, and its length fits one byte.
 fn is_term(term: Option<&[u8]>, events: u8) -> bool
     ensures { Decides result (WritableTerm events (bytes_of term.entry)) }
 {
-    match term {
-        Some(bytes) => bytes.len() <= 255 && is_whole(bytes, events),
-        None => true,
-    }
+    term.is_none_or(|bytes| bytes.len() <= 255 && is_whole(bytes, events))
 }
 
 // Whether each of these supplied terms can be written.
