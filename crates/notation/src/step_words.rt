@@ -1,6 +1,5 @@
 // Steps in words: the rule, and then what differs from a forward step at place 0 with no supplied terms.
 ghost use Rattle.std.specs.Prelude.{◌≡◌, ℕ, ◌<◌, List, [], ◌∷◌, ◌++◌, map, IfOk, MatchOption, OnOk, ◌≢◌};
-ghost use Rattle.algebra.specs.Rules.{variable_byte};
 ghost use Rattle.steps.specs.Readings.{bytes_of, request_of};
 ghost use Rattle.steps.specs.Records.{Request};
 ghost use Rattle.notation.specs.Numbers.{Number};
@@ -37,17 +36,6 @@ fn read_place<'a, 'b>(words: &'b [&'a str]) -> Option<(usize, &'b [&'a str])>
     }
 }
 
-// The byte of a letter.
-fn letter_byte(letter: Variable) -> u8
-    ensures { result ≡ variable_byte letter }
-{
-    match letter {
-        Variable::X => b'X',
-        Variable::Y => b'Y',
-        Variable::Z => b'Z',
-    }
-}
-
 // The term that a word supplies for a letter.
 fn read_supply<'a>(letter: Variable, word: &'a [u8]) -> Option<&'a [u8]>
     ensures { MatchOption result ((t : List ℕ) → word.now ≢ term_word letter t) (λ t. word.now ≡ term_word letter t.now) }
@@ -55,7 +43,7 @@ fn read_supply<'a>(letter: Variable, word: &'a [u8]) -> Option<&'a [u8]>
     let [name, b'=', term @ ..] = word else {
         return None;
     };
-    (*name == letter_byte(letter)).then_some(term)
+    (*name == u8::from(letter)).then_some(term)
 }
 
 // The term for a letter, and the words after it.
@@ -99,7 +87,7 @@ pub fn read_step<'a>(words: &[&'a str]) -> Option<StepRecord<'a>>
 fn add_way(line: &mut Vec<u8>, way: Way) -> Result<(), AllocError>
     ensures { OnOk result (line.new.items ≡ line.old.items ++ spaced (way_part way)) }
 {
-    if let Way::Backward = way {
+    if way == Way::Backward {
         line.extend_from_slice(b" back")?;
     }
     Ok(())
@@ -120,7 +108,7 @@ fn add_place(heap: Global, line: &mut Vec<u8>, place: usize) -> Result<(), Alloc
 fn add_supply(line: &mut Vec<u8>, letter: Variable, term: &[u8]) -> Result<(), AllocError>
     ensures { OnOk result (line.new.items ≡ line.old.items ++ spaced (term_word letter term.now ∷ [])) }
 {
-    line.extend_from_slice(&[b' ', letter_byte(letter), b'='])?;
+    line.extend_from_slice(&[b' ', u8::from(letter), b'='])?;
     line.extend_from_slice(term)?;
     Ok(())
 }

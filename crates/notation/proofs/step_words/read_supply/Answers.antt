@@ -3,4 +3,4 @@ use Rattle.notation.proofs.Stepping.{supplied}
 use Rattle.notation.proofs.step_words.read_supply.Goals as goal
 
 pub returns : goal.returns
-returns c = rw c.then_some.ensures (supplied c.args.letter c.args.word.now _ c.letter_byte.result c.letter_byte.ensures (search rules) (search rules) (search rules))
+returns c = rw c.then_some.ensures (supplied c.args.letter c.args.word.now _ c.from.result c.from.ensures (search rules) (search rules) (search rules))
