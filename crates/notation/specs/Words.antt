@@ -18,10 +18,6 @@ pub data Words : List ℕ → List (List ℕ) → Type 0 where
 abbrev pub OneList : List ℕ → Type 0
 OneList line = (ws vs : List (List ℕ)) → Words line ws → Words line vs → ws ≡ vs
 
--- a word was added to others, or has no byte and was not
-abbrev pub WordAdded : List ℕ → List (List ℕ) → List (List ℕ) → Type 0
-WordAdded w old new = ((length w ≡ 0) × (new ≡ old)) ⊎ ((0 < length w) × (new ≡ old ++ (w ∷ [])))
-
 -- words with a space between each two
 abbrev pub joined : List (List ℕ) → List ℕ
 joined [] = []
