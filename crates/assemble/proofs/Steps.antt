@@ -1,6 +1,6 @@
 -- That a job's file of steps stays one.
 -- Assumes nothing.
-use Rattle.std.proofs.Common.{◌≡◌, ◌∙◌, ℕ, List, [], ◌∷◌, ◌++◌, length, Some, None, Option, Ok, Err, Result, MatchResult, OnErr, unwrap_or, vec_items, sym, ap, subst, arith}
+use Rattle.std.proofs.Common.{◌≡◌, ◌∙◌, ℕ, List, [], ◌∷◌, ◌++◌, length, Some, Option, Ok, Err, Result, MatchResult, OnErr, unwrap_or, vec_items, sym, ap, subst, arith}
 use mathlib.Core.Logic.{∥∥₁_map}
 use Rattle.steps.specs.Records.{Request}
 use Rattle.assemble.specs.Views.{IsJob}

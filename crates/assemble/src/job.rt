@@ -52,7 +52,7 @@ impl<T: Drop> From<AllocFailed<T>> for LineFault {
     ghost from_gives = { λ _ r. r ≡ Memory };
 
     fn from(_error: AllocFailed<T>) -> LineFault {
-        LineFault::Memory
+        Self::Memory
     }
 }
 

@@ -36,7 +36,7 @@ impl From<TreeRefusal> for BytesFault {
     ghost from_gives = { λ _ r. r ≡ NoForm };
 
     fn from(_refusal: TreeRefusal) -> BytesFault {
-        BytesFault::NoForm
+        Self::NoForm
     }
 }
 

@@ -109,7 +109,7 @@ fn encode(heap: Global, said: &StepRecord<'_>) -> Result<Vec<u8>, AllocError>
     Ok(out)
 }
 
-// Whether a rule of this number is on the sheet.
+// Whether a rule of this number is on the sheet. The same test of steps is its own and not public.
 fn is_rule(rule: u8) -> bool
     ensures { Decides result ((1 ≤ rule) × (rule ≤ 42)) }
 {

@@ -1,6 +1,6 @@
 -- A line and its words, which are parted by spaces.
 -- Assumes nothing.
-use Rattle.std.specs.Prelude.{◌≡◌, ℕ, ◌<◌, ◌⊎◌, List, [], ◌∷◌, ◌++◌, length, All, ◌≢◌}
+use Rattle.std.specs.Prelude.{◌≡◌, ℕ, ◌<◌, List, [], ◌∷◌, ◌++◌, length, All, ◌≢◌}
 
 -- a word has a byte, and no space
 pub record Plain (word : List ℕ) : Type 0 where

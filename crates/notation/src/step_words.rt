@@ -69,6 +69,7 @@ pub fn read_step<'a>(words: &[&'a str]) -> Option<StepRecord<'a>>
     let rule = read_byte(number.as_bytes())?;
     let (way, after_way) = read_way(after_rule);
     let (place, after_place) = read_place(after_way)?;
+    // Each term is read from the words that the one before left, and goes to a place of its own: three lines say it plainest.
     let (x, after_x) = read_term(Variable::X, after_place);
     let (y, after_y) = read_term(Variable::Y, after_x);
     let (z, after_z) = read_term(Variable::Z, after_y);
@@ -132,8 +133,9 @@ pub fn step_line(heap: Global, said: &StepRecord<'_>) -> Result<Vec<u8>, AllocEr
     let mut line = Vec::from_slice(heap, number.as_bytes())?;
     add_way(&mut line, said.way)?;
     add_place(heap, &mut line, said.place)?;
-    add_term(&mut line, Variable::X, said.supplied.x)?;
-    add_term(&mut line, Variable::Y, said.supplied.y)?;
-    add_term(&mut line, Variable::Z, said.supplied.z)?;
+    let Binding { x, y, z } = said.supplied;
+    for (letter, term) in [(Variable::X, x), (Variable::Y, y), (Variable::Z, z)] {
+        add_term(&mut line, letter, term)?;
+    }
     Ok(line)
 }

@@ -1,6 +1,15 @@
-use Rattle.std.proofs.Common.{decimal, ◌∙◌}
-use Rattle.notation.proofs.Spacing.{line_made}
+use Rattle.std.proofs.Common.{◌≡◌, ◌∙◌, None, decimal, vec_items, add-one, arith}
+use Rattle.algebra.specs.declared.Variable.TheVariants.{X}
+use Rattle.notation.proofs.Spacing.{one_more, step_made}
 use Rattle.notation.proofs.step_words.step_line.Goals as goal
 
+pub loop-letter-preserved : goal.loop-letter-preserved
+loop-letter-preserved c = rw add-one (one_more _ (X, None) c.loop-letter.letter-index _ (vec_items c.loop-letter.line) _ (omega arith) c.loop-letter.invariant c.in_ok-add_term.ensures)
+
 pub returns : goal.returns
-returns c = line_made (decimal c.args.said.now.rule) _ _ _ _ _ _ _ _ _ _ _ (c.in_ok-line.ensures.items ∙ c.as_bytes.ensures.value ∙ c.in_ok-number.ensures.ok) c.in_ok-add_way.ensures c.in_ok-add_place.ensures c.in_ok-add_term.ensures c.in_ok-add_term-2.ensures c.in_ok-add_term-3.ensures
+returns c =
+    let s = c.args.said.now.supplied in
+    let n : c.loop-letter.letter-index ≡ 3 = omega arith in
+    step_made (decimal c.args.said.now.rule) _ _ s.x s.y s.z _ _ (vec_items c.add_place.new.line) (vec_items c.loop-letter.line)
+    (c.in_ok-line.ensures.items ∙ c.as_bytes.ensures.value ∙ c.in_ok-number.ensures.ok) c.in_ok-add_way.ensures c.in_ok-add_place.ensures
+    (rw n at c.loop-letter.invariant)

@@ -1,4 +1,4 @@
-use Rattle.std.proofs.Common.{◌≡◌, ℕ, List, map, vec_items, IfOk, eqb, sym, subst, lit<, rules, tests}
+use Rattle.std.proofs.Common.{◌≡◌, map, vec_items, IfOk, eqb, sym, subst, lit<, rules, tests}
 use Rattle.std.proofs.lemmas.Iterator.Consumers.{map_from_collect, YieldsList-from_filter}
 use Rattle.std.proofs.lemmas.Iterator.Splits.{YieldsList-from_str_split}
 use Rattle.std.proofs.lemmas.Result.{IfOk-weaker}
