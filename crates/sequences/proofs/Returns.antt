@@ -1,6 +1,6 @@
 -- A row is impossible where a letter precedes one from which one comes back to it.
 -- Assumes nothing.
-use Rattle.std.proofs.Common.{◌≡◌, ℕ, Bool, true, false, ◌&&◌, ◌||◌, T, ◌⊎◌, sym, refl, ◌∙◌, subst, inl, inr}
+use Rattle.std.proofs.Common.{◌≡◌, ℕ, Bool, true, false, ◌&&◌, ◌||◌, T, ◌⊎◌, Decides, sym, refl, ◌∙◌, subst, inl, inr}
 use Rattle.sequences.specs.Rows.{precedes, ties}
 use Rattle.sequences.specs.Walks.{Walk, stay, less, along, back, Impossible, Sound, Chain, one, more, any, Closes, Low}
 use Rattle.sequences.specs.declared.row.Row.{Row}
@@ -96,8 +96,8 @@ module _ (r : Row) (g : ℕ → ℕ → Bool) (s : Sound r) (closes : Closes (we
       (any_in 24 (λ w. precedes r o.left w && g w o.left) o.right (s.right _ _ o.by) (and_in _ _ o.by ((closes o.right o.left).1 o.back))))
 
   -- an answer that is those tests tells whether the row is impossible
-  pub decides : (b : Bool) → b ≡ any 24 (λ v. any 24 (λ w. precedes r v w && g w v)) → (T b → Impossible r) × (Impossible r → T b)
+  pub decides : (b : Bool) → b ≡ any 24 (λ v. any 24 (λ w. precedes r v w && g w v)) → Decides b (Impossible r)
   decides b e = (
-    λ t. let k = any_out 24 (λ v. any 24 (λ w. precedes r v w && g w v)) (subst T e t) in found k.0 k.2,
-    λ i. elim (cases_Bool b) [ inl h ↦ is_T b h | inr h ↦ absurd (none (sym e ∙ h) i) ],
+    λ t. let k = any_out 24 (λ v. any 24 (λ w. precedes r v w && g w v)) (is_T _ (sym e ∙ t)) in found k.0 k.2,
+    λ i. elim (cases_Bool b) [ inl h ↦ h | inr h ↦ absurd (none (sym e ∙ h) i) ],
   )

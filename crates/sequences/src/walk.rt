@@ -1,5 +1,5 @@
 // Whether one can walk from a letter of a row back to itself, using at least one '<'.
-ghost use Rattle.std.specs.Prelude.{◌≡◌, ℕ, ◌<◌, ◌&&◌, T};
+ghost use Rattle.std.specs.Prelude.{◌≡◌, ℕ, ◌<◌, ◌&&◌, Decides};
 ghost use Rattle.sequences.specs.Masks.{linked};
 ghost use Rattle.sequences.specs.Rows.{precedes};
 ghost use Rattle.sequences.specs.Walks.{Closes, Impossible, Low, Sound, any, via};
@@ -50,8 +50,7 @@ impl Row {
     // here alone, and a table keeps it for its rows: no other method needs it.
     pub fn impossible(&self) -> bool
         requires { Sound self.now }
-        ensures yes { T result → Impossible self.now }
-        ensures no { Impossible self.now → T result }
+        ensures { Decides result (Impossible self.now) }
     {
         let reach = self.before.union(&self.ties).closed();
         (0..24).any(|v| self.returns_to(&reach, v))

@@ -16,6 +16,5 @@ returns c =
     let r = c.args.self.now in
     let g = linked c.closed-reach.result.of in
     let k : Closes (weak r) g = closes_like _ (weak r) _ c.union.ensures c.closed-reach.ensures in
-    let d = decides r g c.requires k _
-    (any_letter _ _ _ (λ v. any 24 (λ w. precedes r v w && g w v)) (λ x b q k. search (rules, tests)) c.any.ensures.ran) in
-    record { yes = d.0; no = d.1 }
+    decides r g c.requires k _
+    (any_letter _ _ _ (λ v. any 24 (λ w. precedes r v w && g w v)) (λ x b q k. search (rules, tests)) c.any.ensures.ran)
