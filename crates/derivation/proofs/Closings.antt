@@ -37,10 +37,7 @@ module _ (s : State) (o : s.opened ≡ true) (t t' : List Row) where
 
   -- what closing the present text does, a closing of the bench does
   pub closed_by : (r : Answer CloseRefusal) → texts.Closed s.present (λ _. Holds s.present t') r → IfErr r (λ _. t' ≡ t) → Closed s t r t'
-  closed_by (Ok u) c left = (
-    λ e. asks e (c.0 e),
-    record { sequences = c.1.sequences; closes = c.1.closes; each = c.1.rows },
-  )
+  closed_by (Ok u) c left = (λ e. asks e (c.0 e), c.1)
   closed_by (Err e) c left = (record { fails = fails e c.fails; lower = λ f k. asks f (c.lower f k) }, left)
 
 pub happens_at : (t' : List Row) (r : Answer CloseRefusal) → IfOk r (λ _. All HappensByTicks t') → r ≡ Ok tt → All HappensByTicks t'

@@ -15,7 +15,7 @@ use Rattle.sequences.specs.Codes.{close_code, close_codes_differ}
 use Rattle.sequences.specs.Dates.{HappensByTicks, table_date}
 use Rattle.sequences.specs.Rows.{row_with}
 use Rattle.sequences.specs.Sequences.{rows_with}
-use Rattle.sequences.specs.Tables.{TableDated}
+use Rattle.sequences.specs.Tables.{TableDated, Holds}
 use Rattle.sequences.specs.Walks.{Impossible}
 use Rattle.sequences.specs.declared.refusals.TableRefusal.{TableRefusal}
 use Rattle.sequences.specs.declared.refusals.CloseRefusal.{CloseRefusal}
@@ -25,7 +25,7 @@ use Rattle.sequences.specs.declared.row.Row.{Row}
 use Rattle.sequences.proofs.Closings.{one_rows, keeps_date, never_closes, refused_exactly}
 use Rattle.steps.specs.declared.refusal.StepRefusal.{StepRefusal}
 use Rattle.steps.specs.declared.refusal.StepRefusal.TheVariants as step
-use Rattle.derivation.specs.Model.{State, Answer, Opened, Stepped, ClosingAsks, RowsOf, Closed}
+use Rattle.derivation.specs.Model.{State, Answer, Opened, Stepped, ClosingAsks, Closed}
 use Rattle.derivation.specs.Dating.{DatedAs}
 use Rattle.derivation.specs.Law.{Known, opening, stepping, Run, begun, then, TreeText, going, closing, OneNever, Lawful}
 use Rattle.derivation.proofs.Singles.{history_one, steps_granted}
@@ -124,7 +124,7 @@ closed_impossible h s run old r new c =
         absurd (f.0.fails (λ x closes. no_rows (λ fs. Impossible (row_with fs) → ⊥) x (one_rows s.present x [] closes (never_closes s.present n))))
 
 closed_one : (s : State) (old : List Row) (q r : Answer CloseRefusal) (a b : List Row) → Closed s old q a → Closed s old r b → (q ≡ r) × (a ≡ b)
-closed_one s old (Ok u) (Ok v) a b x y = (refl, x.1.each ∙ one_rows s.present x.1.sequences y.1.sequences x.1.closes y.1.closes ∙ sym y.1.each)
+closed_one s old (Ok u) (Ok v) a b x y = (refl, x.1.rows ∙ one_rows s.present x.1.sequences y.1.sequences x.1.closes y.1.closes ∙ sym y.1.rows)
 closed_one s old (Ok u) (Err f) a b x y = absurd (y.0.fails (x.0 f))
 closed_one s old (Err e) (Ok v) a b x y = absurd (x.0.fails (y.0 e))
 closed_one s old (Err e) (Err f) a b x y = (
@@ -133,9 +133,9 @@ closed_one s old (Err e) (Err f) a b x y = (
 )
 
 -- the table has the date of the tree last opened
-pub table_dates_lem : {D : Type 0} (K : Kind D) (d : ℕ → D) (h : List Known) (s : State) (new : List Row) → Run h s → RowsOf s.present new → (tree : List ℕ) → TreeText h tree → Same K (text_date K d tree) (table_date K d new)
+pub table_dates_lem : {D : Type 0} (K : Kind D) (d : ℕ → D) (h : List Known) (s : State) (new : List Row) → Run h s → Holds s.present new → (tree : List ℕ) → TreeText h tree → Same K (text_date K d tree) (table_date K d new)
 table_dates_lem K d h s new run w tree is =
-    subst (λ (x : List Row). Same K (text_date K d tree) (table_date K d x)) (sym w.each)
+    subst (λ (x : List Row). Same K (text_date K d tree) (table_date K d x)) (sym w.rows)
     (same_trans K _ _ _ (text_dates_lem K d h s run tree is) (keeps_date K d s.present w.sequences w.closes))
 
 closed_dates : (h : List Known) (s : State) → Run h s → (old : List Row) (r : Answer CloseRefusal) (new : List Row) → Closed s old r new → r ≡ Ok tt → (text : List ℕ) → TreeText h text → (K : Kind ℕ) (d : ℕ → ℕ) → Same K (text_date K d text) (table_date K d new)
