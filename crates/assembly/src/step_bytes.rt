@@ -11,7 +11,7 @@ use crate::fault::BytesFault;
 use algebra::{Variable, Way};
 use std::alloc::{AllocError, Global};
 use steps::binding::Binding;
-use steps::record::{StepField, StepRecord};
+use steps::record::{StepField, StepRecord, is_rule};
 use texts::scan::is_whole;
 
 // The way of a step as a field; forward has none.
@@ -107,13 +107,6 @@ fn encode(heap: Global, said: &StepRecord<'_>) -> Result<Vec<u8>, AllocError>
         add(&mut out, field)?;
     }
     Ok(out)
-}
-
-// Whether a rule of this number is on the sheet. The same test of steps is its own and not public.
-fn is_rule(rule: u8) -> bool
-    ensures { Decides result ((1 ≤ rule) × (rule ≤ 42)) }
-{
-    (1..=42).contains(&rule)
 }
 
 // Whether a supplied term can be written: it is whole, has letters among the events, and its length fits one byte.

@@ -4,21 +4,9 @@
 ghost use Rattle.std.specs.Prelude.{◌<◌, length};
 
 use derivation::job::derive;
+use front_of_file::read;
 use sequences::table::Table;
-use std::alloc::Global;
-use std::fs::File;
-use std::io::{self, Read, Write};
-use std::rt::Files;
-
-// How much of a file is read.
-const MOST: u64 = 60_000;
-
-// The first bytes of a file.
-fn read(files: &impl Files, alloc: Global, name: &str) -> io::Result<Vec<u8>> {
-    let mut bytes = Vec::new(alloc);
-    File::open(files, name)?.take(MOST).read_to_end(&mut bytes)?;
-    Ok(bytes)
-}
+use std::io::{self, Write};
 
 // The line of a row.
 fn tell_row(rt: &impl Print, table: &Table, row: usize) -> io::Result<()>

@@ -195,7 +195,7 @@ fn is_map(map: u8) -> bool
 }
 
 // Whether the sheet has a rule of this number.
-fn is_rule(number: u8) -> bool
+pub fn is_rule(number: u8) -> bool
     ensures { Decides result ((1 ≤ number) × (number ≤ 42)) }
 {
     (1..=RULES).contains(&number)

@@ -16,13 +16,3 @@ pub returns-in-103 : goal.returns-in-103
 returns-in-103 c =
     let n = named_gate c.args.word.now (search rules) (search rules) (search rules) c.read_gate.result c.read_gate.ensures in
     record { named = n; one = one_name _; back = named_back _ _ n }
-
-pub returns-in_default : goal.returns-in_default
-returns-in_default c =
-    let n = empty_named c.args.word.now (search rules) in
-    record { named = n; one = one_name _; back = named_back _ None n }
-
-pub returns-in_default-2 : goal.returns-in_default-2
-returns-in_default-2 c =
-    let n = not_named c.args.word.now (search rules) (search rules) (search rules) in
-    record { named = n; one = one_name _; back = named_back _ None n }

@@ -9,13 +9,3 @@ pub returns-in-len3 : goal.returns-in-len3
 returns-in-len3 c =
     let r = subst (λ (ws : List (List ℕ)). MatchOption c.read_three.result ((x : Record) → RecordWords x ws → ⊥) (λ x. RecordWords x ws)) (sym (three_words c.args.words.now _ _ _ (search rules))) c.read_three.ensures in
     record { read = r; one = one_record _; back = record_back _ _ r }
-
-pub returns-in_default : goal.returns-in_default
-returns-in_default c =
-    let r = not_three c.args.words.now (search rules) in
-    record { read = r; one = one_record _; back = record_back _ None r }
-
-pub returns-in_default-2 : goal.returns-in_default-2
-returns-in_default-2 c =
-    let r = not_three c.args.words.now (search rules) in
-    record { read = r; one = one_record _; back = record_back _ None r }

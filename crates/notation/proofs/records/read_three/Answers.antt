@@ -3,9 +3,6 @@ use Rattle.notation.specs.Inputs.{Names}
 use Rattle.notation.proofs.Recording.{no_kind, no_first, no_second, said}
 use Rattle.notation.proofs.records.read_three.Goals as goal
 
-pub returns-in_err-kind : goal.returns-in_err-kind
-returns-in_err-kind c = rw c.from_residual.ensures (no_kind _ _ _ c.in_err-kind.ensures)
-
 pub returns-in_err-first : goal.returns-in_err-first
 returns-in_err-first c =
     rw c.from_residual-in_err-first.ensures

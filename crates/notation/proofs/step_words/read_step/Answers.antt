@@ -5,11 +5,6 @@ use Rattle.notation.proofs.Back.{step_back}
 use Rattle.notation.proofs.Stepping.{no_words, no_step, no_rule_lem, no_place, left_over_lem, step_said, one_step}
 use Rattle.notation.proofs.step_words.read_step.Goals as goal
 
-pub returns-in_err-number : goal.returns-in_err-number
-returns-in_err-number c =
-    let r = no_step _ (no_words c.args.words.now (omega (arith, c.in_err-number.ensures.cases))) in
-    record { read = rw c.from_residual.ensures r; one = one_step _; back = rw c.from_residual.ensures (step_back _ None r) }
-
 pub returns-in_err-rule : goal.returns-in_err-rule
 returns-in_err-rule c =
     let r = no_rule_lem _ _ _ (ap (map (λ x. x.now)) c.in_ok-number.ensures.cases.0) (subst (λ (w : List ℕ). (n : ℕ) → n < 256 → Number w n → ⊥) c.as_bytes.ensures.value c.in_err-rule.ensures) in

@@ -3,9 +3,6 @@ use Rattle.algebra.specs.declared.Variable.TheVariants.{X}
 use Rattle.notation.proofs.Spacing.{one_more, step_made}
 use Rattle.notation.proofs.step_words.step_line.Goals as goal
 
-pub loop-letter-preserved : goal.loop-letter-preserved
-loop-letter-preserved c = rw add-one (one_more _ (X, None) c.loop-letter.letter-index _ (vec_items c.loop-letter.line) _ (omega arith) c.loop-letter.invariant c.in_ok-add_term.ensures)
-
 pub returns : goal.returns
 returns c =
     let s = c.args.said.now.supplied in

@@ -21,13 +21,6 @@ loop-byte-init c = (
   omega arith,
 )
 
-pub enter-requires : goal.enter-requires
-enter-requires c =
-    let g = c.loop-byte.reading in
-    let b = get_or c.args.text.now c.loop-byte.byte-index 0 in
-    let good = subst (Good g.parts g.sums) (sym c.step-step.ensures) (step_good g.wants g.parts g.sums b c.loop-byte.invariant.1) in
-    fits_some c.step-step.result c.in-Some.factor g.parts g.sums good c.in-Some.is
-
 pub loop-byte-preserved : goal.loop-byte-preserved
 loop-byte-preserved c =
     let text = c.args.text.now in
@@ -68,9 +61,3 @@ loop-byte-preserved c =
       omega (arith, good.sums, c.loop-byte.invariant.3),
       elim c.match-step.branch [ in-Some+then-is_last w ↦ omega (arith, w.count-is, c.loop-byte.invariant.4) | in-Some+else-is_last w ↦ omega (arith, w.count-is, c.loop-byte.invariant.4) | in_default w ↦ omega (arith, w.count-is, c.loop-byte.invariant.4) ],
     )
-
-pub returns : goal.returns
-returns c =
-    let text = c.args.text.now in
-    let h : length text ≤ c.loop-byte.byte-index = omega arith in
-    subst (λ (bs : List ℕ). Keeps (run start bs) c.loop-byte.reading c.loop-byte.rows c.loop-byte.count) (take_all _ text h) c.loop-byte.invariant.0

@@ -10,14 +10,6 @@ use Rattle.texts.proofs.Readings.{dates, room, turned, finished}
 use Rattle.texts.proofs.Reversed.{last, last_none, reversed_turn}
 use Rattle.texts.proofs.evaluation.date_of_text.Goals as goal
 
-pub loop-byte-init : goal.loop-byte-init
-loop-byte-init g c =
-    let K = g.D.Date.kind in
-    let new = c.new-stack.ensures in (
-      omega (arith, new.free, ap length new.dates),
-      new.dates ∙ sym (ap (λ (x : List ℕ). dates K (dating_of K c.args.dating.now.dates.now) (terms event_token x)) (last_none c.args.text.now)),
-    )
-
 pub take-requires : goal.take-requires
 take-requires g c =
     let K = g.D.Date.kind in

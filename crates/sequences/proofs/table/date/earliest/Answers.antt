@@ -13,7 +13,3 @@ pub loop-row-preserved : goal.loop-row-preserved
 loop-row-preserved g c =
     earliest_with_one g.D.Date.kind (dating_of g.D.Date.kind c.args.dating.now.dates.now) _ c.next.new.self.iter.rest.now c.in-Some.row.now _ _ _ _
     c.in-Some.ensures.steps c.date.ensures c.earlier-earliest.ensures c.loop-row.invariant
-
-pub returns : goal.returns
-returns g c =
-    earliest_at_last g.D.Date.kind (dating_of g.D.Date.kind c.args.dating.now.dates.now) _ _ _ c.in-None.ensures.steps.0 c.loop-row.invariant
