@@ -94,9 +94,12 @@ impl Bench {
 
 // What is asked without a change.
 impl Bench {
-    // Whether a tree is open.
+    ghost use Rattle.derivation.specs.Stands.{Stands};
+
+    // Whether a tree is open. Callers learn here what holds of every bench.
     pub fn is_open(&self) -> bool
-        ensures { result ≡ self.now.opened }
+        ensures is { result ≡ self.now.opened }
+        ensures stands { Stands self.now }
     {
         self.derivation.is_some()
     }
