@@ -1,9 +1,10 @@
-// The bytes of operators, of the letters of rules, and of the tokens of a text.
-ghost use Rattle.algebra.specs.Conversions.{OperatorByte, VariableByte, VariableOfByte, TokenOfByte};
+// The bytes of operators, of the letters of rules, of ways and of events, and the tokens of a text.
+ghost use Rattle.std.specs.Prelude.{◌≡◌, ◌≢◌, ℕ, ◌<◌, MatchOption};
+ghost use Rattle.algebra.specs.Conversions.{OperatorByte, VariableByte, VariableOfByte, WayByte, WayOfByte, TokenOfByte};
+ghost use Rattle.algebra.specs.Texts.{event_byte};
 
-use crate::{Operator, Token, Variable};
-use std::error::Error;
-use std::fmt;
+use crate::{Operator, Token, Variable, Way};
+use thiserror::Error;
 
 impl From<Operator> for u8 {
     ghost from_gives = { OperatorByte };
@@ -32,16 +33,9 @@ impl From<Variable> for u8 {
 }
 
 // A byte that is no letter of a rule.
-#[derive(Clone, Copy, Debug, PartialEq, Eq)]
+#[derive(Clone, Copy, Debug, PartialEq, Eq, Error)]
+#[error("byte {0} is no letter of a rule")]
 pub struct NoVariable(pub u8);
-
-impl fmt::Display for NoVariable {
-    fn fmt<W: fmt::Write>(&self, f: &mut fmt::Formatter<W>) -> fmt::Result {
-        write!(f, "byte {} is no letter of a rule", self.0)
-    }
-}
-
-impl Error for NoVariable {}
 
 impl TryFrom<u8> for Variable {
     type Error = NoVariable;
@@ -55,6 +49,47 @@ impl TryFrom<u8> for Variable {
             b'Z' => Ok(Variable::Z),
             _ => Err(NoVariable(byte)),
         }
+    }
+}
+
+// The byte of a way in a step record.
+impl From<Way> for u8 {
+    ghost from_gives = { WayByte };
+
+    fn from(way: Way) -> u8 {
+        match way {
+            Way::Forward => 0,
+            Way::Backward => 1,
+        }
+    }
+}
+
+// A byte that is no way.
+#[derive(Clone, Copy, Debug, PartialEq, Eq, Error)]
+#[error("byte {0} is no way")]
+pub struct NoWay(pub u8);
+
+impl TryFrom<u8> for Way {
+    type Error = NoWay;
+
+    ghost try_from_gives = { WayOfByte };
+
+    fn try_from(byte: u8) -> Result<Way, NoWay> {
+        match byte {
+            0 => Ok(Way::Forward),
+            1 => Ok(Way::Backward),
+            _ => Err(NoWay(byte)),
+        }
+    }
+}
+
+// The event whose letter, from a to x, the byte is.
+pub fn event_of(byte: u8) -> Option<u8>
+    ensures { MatchOption result ((v : ℕ) → v < 24 → byte ≢ event_byte v) (λ v. (v < 24) × (byte ≡ event_byte v)) }
+{
+    match byte {
+        b'a'..=b'x' => Some(byte - b'a'),
+        _ => None,
     }
 }
 

@@ -13,7 +13,7 @@ ghost use Rattle.algebra.specs.Texts.{EveryPlace, OneReading, ReadsTexts};
 mod conversions;
 mod refusal;
 
-pub use conversions::NoVariable;
+pub use conversions::{NoVariable, NoWay, event_of};
 pub use refusal::Refusal;
 
 // The operators of a term.
