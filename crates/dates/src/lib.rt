@@ -13,7 +13,7 @@ ghost use Rattle.std.proofs.Common.{rules};
 
 use std::fmt;
 
-// A kind of date.
+// A kind of date. Its order is not that of `Ord`, in which only equal values are the same: two causes are the same date.
 pub trait Date: Copy {
     // which date is never, and which is no later than which, with the laws of the order
     ghost kind: { Kind Self };
@@ -35,7 +35,7 @@ pub trait Date: Copy {
     fn read(bytes: &[u8]) -> Option<Self>
         ensures { result ≡ date_of bytes.now };
 
-    // Whether the other is not no later than this one.
+    // Whether this one is before the other: the other is not as early.
     fn is_before(self, other: Self) -> bool
         ensures { result ≡ before kind self other }
     {
@@ -70,11 +70,8 @@ pub trait Date: Copy {
 pub fn read_front<D: Date>(bytes: &[u8]) -> Option<(D, &[u8])>
     ensures { FrontOf D.date_of bytes.now result }
 {
-    if bytes.len() < D::WIDTH {
-        return None;
-    }
-    let read = D::read(&bytes[..D::WIDTH])?;
-    Some((read, &bytes[D::WIDTH..]))
+    let (front, rest) = bytes.split_at_checked(D::WIDTH)?;
+    Some((D::read(front)?, rest))
 }
 
 // A whole number of ticks; the largest is never.
@@ -159,13 +156,9 @@ impl Date for ShiftTick {
         };
         let shift = u32::from(u16::from_be_bytes([*a, *b]));
         let tick = u32::from(u16::from_be_bytes([*c, *d]));
-        if tick < TICKS_OF_A_SHIFT {
-            Some(ShiftTick {
-                value: shift * TICKS_OF_A_SHIFT + tick,
-            })
-        } else {
-            None
-        }
+        (tick < TICKS_OF_A_SHIFT).then_some(ShiftTick {
+            value: shift * TICKS_OF_A_SHIFT + tick,
+        })
     }
 }
 
@@ -214,7 +207,7 @@ impl Date for Cause {
         let [b] = bytes else {
             return None;
         };
-        let letter = *b as char;
+        let letter = char::from(*b);
         rank(letter).map(|_| Cause { letter })
     }
 }

@@ -9,14 +9,16 @@ use crate::scan::is_text;
 use crate::stack::Stack;
 use algebra::{Refusal, Token};
 use dates::Date;
-use std::error::Error;
-use std::fmt;
+use thiserror::Error;
 
 // Why a text is not evaluated.
-#[derive(Clone, Copy, Debug, PartialEq, Eq)]
+#[derive(Clone, Copy, Debug, PartialEq, Eq, Error)]
 pub enum EvaluationRefusal {
+    #[error("the bytes are no text")]
     NoText,
+    #[error("the dating has not exactly 24 dates")]
     NoDating,
+    #[error("the work table has under 256 dates")]
     SmallWork,
 }
 
@@ -36,23 +38,11 @@ impl Refusal for EvaluationRefusal {
     }
 }
 
-impl fmt::Display for EvaluationRefusal {
-    fn fmt<W: fmt::Write>(&self, f: &mut fmt::Formatter<W>) -> fmt::Result {
-        f.write_str(match self {
-            EvaluationRefusal::NoText => "the bytes are no text",
-            EvaluationRefusal::NoDating => "the dating has not exactly 24 dates",
-            EvaluationRefusal::SmallWork => "the work table has under 256 dates",
-        })
-    }
-}
-
-impl Error for EvaluationRefusal {}
-
 // The date of a text.
 fn date_of_text<D: Date>(text: &[u8], dating: &Dating<'_, D>, work: &mut [D]) -> D
     requires text { IsText text.now }
     requires room { 256 ≤ length work.old }
-    ensures { DateOf D.kind dating.now.dates.now text.now result }
+    ensures { DateOf D.kind dating.now text.now result }
 {
     let mut stack = Stack::new(work);
     for byte in text.iter().rev() {

@@ -73,7 +73,7 @@ impl<'a, D: Date> Stack<'a, D> {
     pub(crate) fn take(&mut self, token: Token<u8>, dating: &Dating<'_, D>)
         requires { Room token self.old.free (length self.old.dates) }
         ensures places { self.new.free + length self.new.dates ≡ self.old.free + length self.old.dates }
-        ensures dates { self.new.dates ≡ stacked D.kind (dating_of D.kind dating.now.dates.now) token self.old.dates }
+        ensures dates { self.new.dates ≡ stacked D.kind (dating_of D.kind dating.now) token self.old.dates }
     {
         match token {
             Token::Letter(event) => self.push(dating.date_of(event)),

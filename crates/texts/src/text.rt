@@ -2,9 +2,8 @@
 ghost use Rattle.std.specs.Prelude.{◌≡◌, ◌+◌, ◌<◌, ◌≤◌, [], ◌∷◌, ◌++◌, length, nat_le, OnOk, OnErr};
 ghost use Rattle.algebra.specs.Texts.{never_byte};
 
-use std::error::Error;
-use std::fmt;
 use std::marker::Model;
+use thiserror::Error;
 
 // The most bytes that a text has.
 pub const LIMIT: usize = 511;
@@ -36,16 +35,9 @@ impl Model for Text {
 }
 
 // The bytes do not fit into a text.
-#[derive(Clone, Copy, Debug, PartialEq, Eq)]
+#[derive(Clone, Copy, Debug, PartialEq, Eq, Error)]
+#[error("a text has at most 511 bytes")]
 pub struct NoRoom;
-
-impl fmt::Display for NoRoom {
-    fn fmt<W: fmt::Write>(&self, f: &mut fmt::Formatter<W>) -> fmt::Result {
-        f.write_str("a text has at most 511 bytes")
-    }
-}
-
-impl Error for NoRoom {}
 
 impl Text {
     // A text with no byte yet, to be filled by `append`.

@@ -10,4 +10,4 @@ abbrev pub invariant-loop-byte : goal.invariant-loop-byte
 invariant-loop-byte g l =
     let K = g.D.Date.kind in
     (l.stack.free + length l.stack.dates ≡ length l.fn.work)
-    × (l.stack.dates ≡ dates K (dating_of K l.dating.dates.now) (terms event_token (last (length l.yielded) l.text)))
+    × (l.stack.dates ≡ dates K (dating_of K l.dating) (terms event_token (last (length l.yielded) l.text)))
