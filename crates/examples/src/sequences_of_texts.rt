@@ -107,7 +107,9 @@ fn no_line(rt: HostRuntime) {
     let mut table = Table::new();
     assert!(rt; table.close(b"a").is_ok());
     let mut buffer = [7; 513];
-    let small = table.line(5, &mut buffer[..511]).map_err(|refusal| refusal.code());
+    let small = table
+        .line(5, &mut buffer[..511])
+        .map_err(|refusal| refusal.code());
     assert_eq!(rt; small, Err(54));
     let none = table.line(1, &mut buffer).map_err(|refusal| refusal.code());
     assert_eq!(rt; none, Err(55));
@@ -124,7 +126,10 @@ fn ticks(text: &[u8], a: u32, b: u32, c: u32) -> Result<u32, u8> {
     dating[0] = Tick { value: a };
     dating[1] = Tick { value: b };
     dating[2] = Tick { value: c };
-    table.date(&dating).map(|at| at.value).map_err(|refusal| refusal.code())
+    table
+        .date(&dating)
+        .map(|at| at.value)
+        .map_err(|refusal| refusal.code())
 }
 
 #[test]

@@ -21,7 +21,7 @@ impl Row {
     // The pairs of v and w meet their operators' tests.
     fn pair_meets<D: Date>(&self, v: u8, w: u8, dating: &Dating<'_, D>) -> bool
         requires { (v < 24) × (w < 24) }
-        ensures { result ≡ pair_meets D.kind self.now v w (dating_of D.kind dating.now.dates.now v) (dating_of D.kind dating.now.dates.now w) }
+        ensures { result ≡ pair_meets D.kind self.now v w (dating_of D.kind dating.now v) (dating_of D.kind dating.now w) }
     {
         let p = dating.date_of(v);
         let q = dating.date_of(w);
@@ -31,21 +31,21 @@ impl Row {
     // The pairs whose first letter is v meet their operators' tests.
     fn meets_from<D: Date>(&self, v: u8, dating: &Dating<'_, D>) -> bool
         requires { v < 24 }
-        ensures { result ≡ all 24 (λ w. pair_meets D.kind self.now v w (dating_of D.kind dating.now.dates.now v) (dating_of D.kind dating.now.dates.now w)) }
+        ensures { result ≡ all 24 (λ w. pair_meets D.kind self.now v w (dating_of D.kind dating.now v) (dating_of D.kind dating.now w)) }
     {
         (0..24).all(|w| self.pair_meets(v, w, dating))
     }
 
     // Every pair meets its operator's test.
     fn meets<D: Date>(&self, dating: &Dating<'_, D>) -> bool
-        ensures { result ≡ meets D.kind (dating_of D.kind dating.now.dates.now) self.now }
+        ensures { result ≡ meets D.kind (dating_of D.kind dating.now) self.now }
     {
         (0..24).all(|v| self.meets_from(v, dating))
     }
 
     // The latest date of the letters that count, the first in letter order where several are the same.
     fn latest<D: Date>(&self, dating: &Dating<'_, D>) -> Option<D>
-        ensures { result ≡ latest D.kind (dating_of D.kind dating.now.dates.now) (counts self.now) 24 }
+        ensures { result ≡ latest D.kind (dating_of D.kind dating.now) (counts self.now) 24 }
     {
         (0..24)
             .filter(|v| self.counts(*v))
@@ -55,7 +55,7 @@ impl Row {
 
     // The date of the row.
     pub fn date<D: Date>(&self, dating: &Dating<'_, D>) -> D
-        ensures { result ≡ row_date D.kind (dating_of D.kind dating.now.dates.now) self.now }
+        ensures { result ≡ row_date D.kind (dating_of D.kind dating.now) self.now }
     {
         if self.meets(dating) {
             self.latest(dating).unwrap_or(D::never())

@@ -13,7 +13,7 @@ use texts::dating::Dating;
 
 // The earliest of the rows' dates, the first such row's, and never if there are no rows.
 fn earliest<D: Date>(rows: &[Row], dating: &Dating<'_, D>) -> D
-    ensures { result ≡ table_date D.kind (dating_of D.kind dating.now.dates.now) rows.now }
+    ensures { result ≡ table_date D.kind (dating_of D.kind dating.now) rows.now }
 {
     let mut earliest = D::never();
     for row in rows.iter().rev() {

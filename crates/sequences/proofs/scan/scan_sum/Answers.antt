@@ -1,10 +1,9 @@
 use Rattle.std.proofs.Common.{◌≡◌, ℕ, ◌<◌, ◌≤◌, true, false, List, [], length, get_or, take, set, replicate, sym, refl, ap, ◌∙◌, subst, arith}
-use Rattle.std.proofs.lemmas.List.{take_all}
 use Rattle.sequences.specs.Scans.{State, Keeps, Ready, run, start, step, stepped}
 use Rattle.sequences.specs.declared.row.Row.{Row}
 use Rattle.sequences.specs.declared.scan.Reading.{Reading}
 use Rattle.sequences.proofs.Padded.{padded_none, padded_blank}
-use Rattle.sequences.proofs.Scanning.{Good, step_good, fits_some, run_next, keeps_none, keeps_some}
+use Rattle.sequences.proofs.Scanning.{Good, step_good, run_next, keeps_none, keeps_some}
 use Rattle.sequences.proofs.scan.scan_sum.Goals as goal
 use Rattle.sequences.proofs.scan.scan_sum.Goals.{in_default, in-Some+else-is_last, in-Some+then-is_last, then-count-lt64, else-count-lt64}
 

@@ -12,7 +12,7 @@ use Rattle.sequences.proofs.row.Row.latest.Goals as goal
 pub returns : goal.returns
 returns g c =
     let K = g.D.Date.kind in
-    let d = dating_of K c.args.dating.now.dates.now in
+    let d = dating_of K c.args.dating.now in
     latest_by K d (counts c.args.self.now) c.reduce.result 24
     (reduced (joined K And) (λ x y r q k. search (rules, tests)) c.map.result c.reduce.result c.reduce.ensures.ran
     (YieldsList-from_map _ d

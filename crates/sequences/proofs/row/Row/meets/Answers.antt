@@ -9,6 +9,6 @@ use Rattle.sequences.proofs.row.Row.meets.Goals as goal
 pub returns : goal.returns
 returns g c =
     let K = g.D.Date.kind in
-    let d = dating_of K c.args.dating.now.dates.now in
+    let d = dating_of K c.args.dating.now in
     all_letters _ _ _ (λ v. all 24 (λ w. pair_meets K c.args.self.now v w (d v) (d w)))
     (λ x b q k. search (rules, tests)) c.all.ensures.ran

@@ -16,14 +16,14 @@ returns-clause-earliest g c =
     let K = g.D.Date.kind in
     let d = dating_of K c.args.dating.now in
     let rs = c.args.self.now in
-    let same : c.in_ok-dating.dating.dates.now ≡ c.args.dating.now = search rules in
-    let e = c.earliest.ensures ∙ ap (table_date K (dating_of K c.in_ok-dating.dating.dates.now)) c.self.view_is ∙ ap (λ ds. table_date K (dating_of K ds) rs) same in
+    let same : c.in_ok-dating.dating ≡ c.args.dating.now = search rules in
+    let e = c.earliest.ensures ∙ ap (table_date K (dating_of K c.in_ok-dating.dating)) c.self.view_is ∙ ap (λ ds. table_date K (dating_of K ds) rs) same in
     subst (RowsDated K d rs) (sym e) (rows_dated K d rs)
 
 pub returns-clause-keeps : goal.returns-clause-keeps
 returns-clause-keeps g c bs h =
     let K = g.D.Date.kind in
     let d = dating_of K c.args.dating.now in
-    let same : c.in_ok-dating.dating.dates.now ≡ c.args.dating.now = search rules in
-    let e = c.earliest.ensures ∙ ap (table_date K (dating_of K c.in_ok-dating.dating.dates.now)) c.self.view_is ∙ ap (λ ds. table_date K (dating_of K ds) c.args.self.now) same in
+    let same : c.in_ok-dating.dating ≡ c.args.dating.now = search rules in
+    let e = c.earliest.ensures ∙ ap (table_date K (dating_of K c.in_ok-dating.dating)) c.self.view_is ∙ ap (λ ds. table_date K (dating_of K ds) c.args.self.now) same in
     subst (Same K (text_date K d bs)) (sym e) (held_date K d bs c.args.self.now h)

@@ -7,5 +7,5 @@ use Rattle.sequences.proofs.table.date.earliest.Given as goal
 abbrev pub invariant-loop-row : goal.invariant-loop-row
 invariant-loop-row g l =
     let K = g.D.Date.kind in
-    let d = dating_of K l.dating.dates.now in
+    let d = dating_of K l.dating in
     earliest_with K d l.row-iterator.iter.rest.now l.earliest ≡ table_date K d l.rows
