@@ -7,24 +7,16 @@ ghost use Rattle.steps.specs.Files.{NextRecord, OneRecord, OneRun, Runs, answer_
 use crate::records::Records;
 use crate::refusal::StepRefusal;
 use crate::stepping::apply_step;
-use std::error::Error;
-use std::fmt;
 use texts::text::Text;
+use thiserror::Error;
 
 // The step of a file that is refused, counted from 1, and why.
-#[derive(Clone, Copy, Debug, PartialEq, Eq)]
+#[derive(Clone, Copy, Debug, PartialEq, Eq, Error)]
+#[error("step {step}: {refusal}")]
 pub struct StepFault {
     pub step: usize,
     pub refusal: StepRefusal,
 }
-
-impl fmt::Display for StepFault {
-    fn fmt<W: fmt::Write>(&self, f: &mut fmt::Formatter<W>) -> fmt::Result {
-        write!(f, "step {}: {}", self.step, self.refusal)
-    }
-}
-
-impl Error for StepFault {}
 
 // The first record of the file and the bytes after it; none at the end of the file.
 pub fn next_record(file: &[u8]) -> Result<Option<(&[u8], &[u8])>, StepRefusal>

@@ -3,17 +3,22 @@ ghost use Rattle.std.specs.Prelude.{◌≡◌};
 ghost use Rattle.steps.specs.declared.refusal.StepRefusal.TheVariants.{TooLong};
 
 use algebra::Refusal;
-use std::error::Error;
-use std::fmt;
 use texts::text::NoRoom;
+use thiserror::Error;
 
-#[derive(Clone, Copy, Debug, PartialEq, Eq)]
+#[derive(Clone, Copy, Debug, PartialEq, Eq, Error)]
 pub enum StepRefusal {
+    #[error("no tree is open")]
     NoTree,
+    #[error("the step record is not well-formed")]
     Form,
+    #[error("the supplied terms are not those that the rule lacks")]
     Supplies,
+    #[error("the place is at or past the end of the text")]
     Place,
+    #[error("the rule does not fit at the place")]
     NoFit,
+    #[error("the new text would have more than 511 bytes")]
     TooLong,
 }
 
@@ -44,18 +49,3 @@ impl From<NoRoom> for StepRefusal {
         StepRefusal::TooLong
     }
 }
-
-impl fmt::Display for StepRefusal {
-    fn fmt<W: fmt::Write>(&self, f: &mut fmt::Formatter<W>) -> fmt::Result {
-        f.write_str(match self {
-            StepRefusal::NoTree => "no tree is open",
-            StepRefusal::Form => "the step record is not well-formed",
-            StepRefusal::Supplies => "the supplied terms are not those that the rule lacks",
-            StepRefusal::Place => "the place is at or past the end of the text",
-            StepRefusal::NoFit => "the rule does not fit at the place",
-            StepRefusal::TooLong => "the new text would have more than 511 bytes",
-        })
-    }
-}
-
-impl Error for StepRefusal {}
