@@ -2,12 +2,13 @@
 -- Assumes nothing.
 use Rattle.std.proofs.Common.{◌≡◌, ℕ, zero, suc, ◌+◌, ◌<◌, ◌≤◌, Bool, true, false, List, [], ◌∷◌, ◌++◌, length, get_or, take, drop, sym, refl, ap, ◌∙◌, subst, arith}
 use Rattle.std.proofs.lemmas.List.{take_at, drop_at}
+use Rattle.algebra.specs.Conversions.{way_byte}
 use Rattle.algebra.specs.Rules.{variable_byte}
 use Rattle.algebra.specs.declared.Variable.{Variable}
 use Rattle.algebra.specs.declared.Variable.TheVariants.{X, Y, Z}
 use Rattle.algebra.specs.declared.Way.{Way}
 use Rattle.algebra.specs.declared.Way.TheVariants.{Forward, Backward}
-use Rattle.steps.specs.Records.{Request, Field, the_rule, the_way, the_place, the_term, bit_of, bits, bit_stands, blank, put, way_byte, FieldAt, Next, Fields, Says, WholeTerm, supplied_for}
+use Rattle.steps.specs.Records.{Request, Field, the_rule, the_way, the_place, the_term, bit_of, bits, bit_stands, blank, put, FieldAt, Next, Fields, Says, WholeTerm, supplied_for}
 use Rattle.steps.specs.Readings.{kind_bit}
 use Rattle.steps.specs.declared.record.FieldKind.{FieldKind}
 use Rattle.steps.specs.declared.record.FieldKind.TheVariants.{Rule as KindRule, Way as KindWay, Place as KindPlace, Supply as KindSupply}

@@ -90,11 +90,9 @@ fn read_rule(bytes: &[u8]) -> Result<(StepField<'_>, &[u8]), StepRefusal>
 fn read_way(bytes: &[u8]) -> Result<(StepField<'_>, &[u8]), StepRefusal>
     ensures { FieldRead 1 bytes.now result }
 {
-    match bytes {
-        [0, rest @ ..] => Ok((StepField::Way(Way::Forward), rest)),
-        [1, rest @ ..] => Ok((StepField::Way(Way::Backward), rest)),
-        _ => Err(StepRefusal::Form),
-    }
+    let (byte, rest) = bytes.split_first().ok_or(StepRefusal::Form)?;
+    let way = Way::try_from(*byte).map_err(|_| StepRefusal::Form)?;
+    Ok((StepField::Way(way), rest))
 }
 
 // The place, and the bytes after it.
