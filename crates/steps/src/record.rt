@@ -39,7 +39,7 @@ pub(crate) enum FieldKind {
     Supply(Variable),
 }
 
-// The fields, in the order of their bits in the map byte.
+// The fields, in the order of their bits in the map byte, which is the order in which a record has them.
 const FIELDS: [FieldKind; 6] = [
     FieldKind::Rule,
     FieldKind::Way,
@@ -50,7 +50,7 @@ const FIELDS: [FieldKind; 6] = [
 ];
 
 impl<'a> StepRecord<'a> {
-    // What is said before any field is read.
+    // What is said before any field is read: the rule 0 stands for none yet.
     fn blank() -> StepRecord<'a>
         ensures { request_of result ≡ blank }
     {
@@ -166,7 +166,8 @@ impl<'a> Reading<'a> {
     }
 }
 
-// What the fields that stand in the map say, where they are all the bytes.
+// What the fields that stand in the map say, where they are all the bytes. The bits of the map are walked in their
+// order, as the form of a record is defined.
 fn read_fields<'a>(map: u8, bytes: &'a [u8]) -> Result<StepRecord<'a>, StepRefusal>
     ensures { FieldsRead map bytes.now result }
 {

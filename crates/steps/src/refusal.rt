@@ -1,4 +1,4 @@
-// Why a step is refused, and the number of each reason.
+// The reasons to refuse a step, with the words and the number of each.
 ghost use Rattle.std.specs.Prelude.{◌≡◌};
 ghost use Rattle.steps.specs.declared.refusal.StepRefusal.TheVariants.{TooLong};
 
@@ -6,6 +6,7 @@ use algebra::Refusal;
 use texts::text::NoRoom;
 use thiserror::Error;
 
+// Why a step is refused. `NoTree` is for callers whose text comes from a tree that has to be open.
 #[derive(Clone, Copy, Debug, PartialEq, Eq, Error)]
 pub enum StepRefusal {
     #[error("no tree is open")]

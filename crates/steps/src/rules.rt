@@ -7,7 +7,7 @@ ghost use Rattle.steps.specs.Sides.{side_text};
 
 use algebra::{Variable, Way};
 
-// The two sides of a rule of the sheet.
+// The two sides of a rule, left and right as the sheet has them.
 #[derive(Clone, Copy, Debug, PartialEq, Eq)]
 pub struct Rule {
     pub left: &'static [u8],
@@ -193,7 +193,8 @@ fn has_letter(side: &[u8], letter: Variable) -> bool
     side.contains(&u8::from(letter))
 }
 
-// The side that a step finds, and the side that it puts there.
+// The two sides of a rule as a step uses them: the old one is found, and the new one put there. Old is left, or right
+// where the step goes backward.
 #[derive(Clone, Copy, Debug, PartialEq, Eq)]
 pub struct Sides {
     pub old: &'static [u8],
