@@ -54,31 +54,31 @@ merged from to text b sup all rest fit supplied joined =
     }
 
 -- the new text in three parts
-module _ (old : List ℕ) (p : ℕ) (from to : Term Variable) (all sup : Binding) (rest u₀ u₁ : List ℕ) (both : Both from (drop p old) all sup rest) (none : u₀ ≡ []) where
+module _ (old : List ℕ) (p : ℕ) (from to : Term Variable) (all sup : Binding) (rest u₀ u₁ front : List ℕ) (both : Both from (drop p old) all sup rest) (none : u₀ ≡ []) (before : front ≡ take p old) where
   abbrev new : List ℕ
   new = take p old ++ (text_of (inst both.choice to) ++ rest)
 
   made : Instance old p from to sup new
   made = record { choice = both.choice; rest = rest; agrees = both.some; before = both.matches; after = refl }
 
-  first : u₁ ≡ u₀ ++ take p old → u₁ ≡ take p old
-  first e = e ∙ ap (λ (l : List ℕ). l ++ take p old) none
+  first : u₁ ≡ u₀ ++ front → u₁ ≡ take p old
+  first e = e ∙ (λ k. none k ++ before k)
 
-  pub complete : (u₂ u₃ : List ℕ) → u₁ ≡ u₀ ++ take p old → ((σ : Variable → Term ℕ) → Agrees all σ → u₂ ≡ u₁ ++ text_of (inst σ to)) → u₃ ≡ u₂ ++ rest → Instance old p from to sup u₃
+  pub complete : (u₂ u₃ : List ℕ) → u₁ ≡ u₀ ++ front → ((σ : Variable → Term ℕ) → Agrees all σ → u₂ ≡ u₁ ++ text_of (inst σ to)) → u₃ ≡ u₂ ++ rest → Instance old p from to sup u₃
   complete u₂ u₃ a b c =
       let is : u₃ ≡ new = c ∙ ap (λ (l : List ℕ). l ++ rest) (b both.choice both.whole ∙ ap (λ (l : List ℕ). l ++ text_of (inst both.choice to)) (first a)) ∙ append_assoc (take p old) (text_of (inst both.choice to)) rest in
       subst (Instance old p from to sup) (sym is) made
 
-  pub long_front : 511 < length u₀ + length (take p old) → (l : List ℕ) × (Instance old p from to sup l × (511 < length l))
+  pub long_front : 511 < length u₀ + length front → (l : List ℕ) × (Instance old p from to sup l × (511 < length l))
   long_front h =
-      (new, (made, omega (arith, h, ap length none, length-append (take p old) (text_of (inst both.choice to) ++ rest))))
+      (new, (made, omega (arith, h, ap length none, ap length before, length-append (take p old) (text_of (inst both.choice to) ++ rest))))
 
-  pub long_side : u₁ ≡ u₀ ++ take p old → ((σ : Variable → Term ℕ) → Agrees all σ → 511 < length (u₁ ++ text_of (inst σ to))) → (l : List ℕ) × (Instance old p from to sup l × (511 < length l))
+  pub long_side : u₁ ≡ u₀ ++ front → ((σ : Variable → Term ℕ) → Agrees all σ → 511 < length (u₁ ++ text_of (inst σ to))) → (l : List ℕ) × (Instance old p from to sup l × (511 < length l))
   long_side a h =
       let w = text_of (inst both.choice to) in
       (new, (made, omega (arith, h both.choice both.whole, ap length (first a), length-append u₁ w, length-append (take p old) (w ++ rest), length-append w rest)))
 
-  pub long_rest : (u₂ : List ℕ) → u₁ ≡ u₀ ++ take p old → ((σ : Variable → Term ℕ) → Agrees all σ → u₂ ≡ u₁ ++ text_of (inst σ to)) → 511 < length u₂ + length rest → (l : List ℕ) × (Instance old p from to sup l × (511 < length l))
+  pub long_rest : (u₂ : List ℕ) → u₁ ≡ u₀ ++ front → ((σ : Variable → Term ℕ) → Agrees all σ → u₂ ≡ u₁ ++ text_of (inst σ to)) → 511 < length u₂ + length rest → (l : List ℕ) × (Instance old p from to sup l × (511 < length l))
   long_rest u₂ a b h =
       let w = text_of (inst both.choice to) in
       (new, (made, omega (arith, h, ap length (b both.choice both.whole), ap length (first a), length-append u₁ w, length-append (take p old) (w ++ rest), length-append w rest)))

@@ -52,10 +52,11 @@ pub fn rewrite<'a>(
     ensures made { (s t : Term Letter) → WritesSides sides s t → Provided s t supplied.entry → Rewritten old.now place s t supplied.entry result }
     ensures short { IfOk result (λ new. length new ≤ 511) }
 {
-    let Walk { bound, rest } = fit(sides.old, &old[place..]).ok_or(StepRefusal::NoFit)?;
+    let (before, here) = old.split_at(place);
+    let Walk { bound, rest } = fit(sides.old, here).ok_or(StepRefusal::NoFit)?;
     let bound = bound.or(supplied);
     let mut new = Text::empty();
-    new.append(&old[..place])?;
+    new.append(before)?;
     append_side(&mut new, sides.new, bound)?;
     new.append(rest)?;
     Ok(new)

@@ -1,5 +1,4 @@
 use Rattle.std.proofs.Common.{ℕ, List, drop, sym, subst}
-use Rattle.std.proofs.lemmas.List.{take_rest}
 use Rattle.std.proofs.lemmas.Result.{err_from_is_err_and}
 use Rattle.algebra.specs.Terms.{Term}
 use Rattle.algebra.specs.declared.Variable.{Variable}
@@ -14,7 +13,7 @@ use Rattle.steps.proofs.rewriting.rewrite.Goals.{After-append}
 fitted : (c : After-append) (s t : Term Variable) → WritesSides c.args.sides s t → Fitted s (drop c.args.place c.args.old.now) c.in_ok-bound.field-0.bound c.in_ok-bound.field-0.rest.now
 fitted c s t w =
     let walk = c.in_ok-bound.field-0 in
-    subst (λ (l : List ℕ). Fitted s l walk.bound walk.rest.now) (take_rest c.args.old.now c.args.place)
+    subst (λ (l : List ℕ). Fitted s l walk.bound walk.rest.now) c.split_at.ensures.back
     (match_from_ok_or _ _ c.fit.result NoFit walk (c.fit.ensures s w.old) (sym c.in_ok-bound.ensures.value))
 
 both : (c : After-append) (s t : Term Variable) → WritesSides c.args.sides s t → Provided s t c.args.supplied → Both s (drop c.args.place c.args.old.now) c.or-bound.result c.args.supplied c.in_ok-bound.field-0.rest.now
@@ -25,7 +24,7 @@ returns-in_err-append-clause-made c s t w sup =
     let k = (goal.at.returns-in_err-append-clause-made c).After-append in
     let p = err_from_is_err_and c.from_residual-in_err-append.result c.from_residual-in_err-append.ensures.1 in
     rw (p.1, p.2)
-    (long_front c.args.old.now c.args.place s t c.or-bound.result c.args.supplied _ _ c.append.new.self (both k s t w sup) c.empty-new.ensures c.in_err-append.ensures.err)
+    (long_front c.args.old.now c.args.place s t c.or-bound.result c.args.supplied _ _ c.append.new.self _ (both k s t w sup) c.empty-new.ensures c.split_at.ensures.front c.in_err-append.ensures.err)
 
 pub returns-in_err-append_side-clause-made : goal.returns-in_err-append_side-clause-made
 returns-in_err-append_side-clause-made c s t w sup =
@@ -33,7 +32,7 @@ returns-in_err-append_side-clause-made c s t w sup =
     let p = err_from_is_err_and c.from_residual-in_err-append_side.result c.from_residual-in_err-append_side.ensures.1 in
     let bound = all_bound s t _ c.in_ok-bound.field-0.bound c.args.supplied _ _ (fitted k s t w) sup c.or-bound.ensures in
     rw (p.1, p.2)
-    (long_side c.args.old.now c.args.place s t c.or-bound.result c.args.supplied _ _ _ (both k s t w sup) c.empty-new.ensures c.in_ok-append.ensures.ok
+    (long_side c.args.old.now c.args.place s t c.or-bound.result c.args.supplied _ _ _ _ (both k s t w sup) c.empty-new.ensures c.split_at.ensures.front c.in_ok-append.ensures.ok
     (c.in_err-append_side.ensures t w.new bound))
 
 pub returns-in_err-append-2-clause-made : goal.returns-in_err-append-2-clause-made
@@ -42,12 +41,12 @@ returns-in_err-append-2-clause-made c s t w sup =
     let p = err_from_is_err_and c.from_residual-in_err-append-2.result c.from_residual-in_err-append-2.ensures.1 in
     let bound = all_bound s t _ c.in_ok-bound.field-0.bound c.args.supplied _ _ (fitted k s t w) sup c.or-bound.ensures in
     rw (p.1, p.2)
-    (long_rest c.args.old.now c.args.place s t c.or-bound.result c.args.supplied _ _ _ (both k s t w sup) c.empty-new.ensures _ c.in_ok-append.ensures.ok
+    (long_rest c.args.old.now c.args.place s t c.or-bound.result c.args.supplied _ _ _ _ (both k s t w sup) c.empty-new.ensures c.split_at.ensures.front _ c.in_ok-append.ensures.ok
     (c.in_ok-append_side.ensures t w.new bound) c.in_err-append-2.ensures.err)
 
 pub returns-clause-made : goal.returns-clause-made
 returns-clause-made c s t w sup =
     let k = (goal.at.returns-clause-made c).After-append in
     let bound = all_bound s t _ c.in_ok-bound.field-0.bound c.args.supplied _ _ (fitted k s t w) sup c.or-bound.ensures in
-    complete c.args.old.now c.args.place s t c.or-bound.result c.args.supplied _ _ _ (both k s t w sup) c.empty-new.ensures _ _
+    complete c.args.old.now c.args.place s t c.or-bound.result c.args.supplied _ _ _ _ (both k s t w sup) c.empty-new.ensures c.split_at.ensures.front _ _
     c.in_ok-append.ensures.ok (c.in_ok-append_side.ensures t w.new bound) c.in_ok-append-2.ensures.ok
