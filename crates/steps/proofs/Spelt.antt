@@ -8,9 +8,9 @@ use Rattle.algebra.specs.Texts.{operator_byte, text_of}
 use Rattle.algebra.specs.Rules.{variable_byte, has}
 use Rattle.algebra.specs.declared.Variable.{Variable}
 use Rattle.steps.specs.Sides.{side_text, slot, Holds, Agrees}
-use Rattle.steps.specs.Rewrites.{Piece}
+use Rattle.steps.specs.Rewrites.{BoundSymbol, Piece}
 use Rattle.steps.specs.declared.binding.Binding.{Binding}
-use Rattle.steps.proofs.Taken.{prints, said, has_any, apart, not_never, or_end, or_assoc}
+use Rattle.steps.proofs.Taken.{prints, said, has_any, apart, not_never, same_letter, or_end, or_assoc}
 
 some_of : {A : Type 0} (o : Option A) → is_some o ≡ true → (x : A) × (o ≡ Some x)
 some_of None e = let z : ◌≡◌ {A = ℕ} 0 1 = cc in absurd (omega arith)
@@ -22,6 +22,13 @@ or_left a c e = ap (λ (t : Bool). t || c) e
 pub or_right : (a c : Bool) → c ≡ true → (a || c) ≡ true
 or_right true c e = refl
 or_right false c e = e
+
+-- a symbol that stands for bytes is no letter, or one that is bound
+piece_bound : (b : Binding) (s : ℕ) (w : List ℕ) → Piece b s w → BoundSymbol b s
+piece_bound b s w (inl p) v is =
+    let same : p.letter ≡ v = same_letter p.letter v (sym p.is ∙ is) in
+    ap is_some (ap (slot b) (sym same) ∙ p.there)
+piece_bound b s w (inr p) v is = absurd (p.0 v is)
 
 -- the next symbol of what is left of a side
 record Next (b : Binding) (s : ℕ) (todo : List ℕ) (left : List (Term Variable)) : Type 0 where
@@ -87,6 +94,9 @@ spelt_none b S old todo p letters = record {
 module _ (b : Binding) (S : Term Variable) (old new side : List ℕ) (i : ℕ) (h : i < length side) (inv : Spelt b S old new (drop i side)) where
   at : Next b (get_or side i 0) (drop (i + 1) side) inv.left
   at = next b (get_or side i 0) (drop (i + 1) side) inv.left (sym (drop_more side i 0 h) ∙ inv.todo_is) inv.letters
+
+  pub spelt_bound : BoundSymbol b (get_or side i 0)
+  spelt_bound = piece_bound b (get_or side i 0) at.bytes at.piece
 
   pub spelt_more : (after : List ℕ) → ((w : List ℕ) → Piece b (get_or side i 0) w → after ≡ new ++ w) → Spelt b S old after (drop (i + 1) side)
   spelt_more after added = record {

@@ -1,7 +1,7 @@
 use Rattle.std.proofs.Common.{ℕ, List, subst, arith}
 use Rattle.std.proofs.lemmas.List.{drop_all}
 use Rattle.std.proofs.lemmas.Result.{err_from_is_err_and}
-use Rattle.steps.proofs.Spelt.{Spelt, spelt_none, spelt_more, spelt_full, spelt_all}
+use Rattle.steps.proofs.Spelt.{Spelt, spelt_none, spelt_bound, spelt_more, spelt_full, spelt_all}
 use Rattle.steps.proofs.rewriting.append_side.Goals as goal
 
 pub loop-symbol-init : goal.loop-symbol-init
@@ -21,3 +21,7 @@ returns c s is bound =
     let side = c.args.side.now in
     spelt_all c.args.bound s _ _
     (subst (λ (l : List ℕ). Spelt c.args.bound s c.args.text.now c.loop-symbol.text l) (drop_all c.loop-symbol.symbol-index side (omega arith)) (c.loop-symbol.invariant s is bound))
+
+pub append_symbol-requires : goal.append_symbol-requires
+append_symbol-requires c =
+    spelt_bound c.args.bound c.requires.term _ c.loop-symbol.text c.args.side.now c.loop-symbol.symbol-index (omega arith) (c.loop-symbol.invariant c.requires.term c.requires.written c.requires.bound)

@@ -50,3 +50,13 @@ returns-clause-made c s t w sup =
     let bound = all_bound s t _ c.in_ok-bound.field-0.bound c.args.supplied _ _ (fitted k s t w) sup c.or-bound.ensures in
     complete c.args.old.now c.args.place s t c.or-bound.result c.args.supplied _ _ _ _ (both k s t w sup) c.empty-new.ensures c.split_at.ensures.front _ _
     c.in_ok-append.ensures.ok (c.in_ok-append_side.ensures t w.new bound) c.in_ok-append-2.ensures.ok
+
+pub append_side-requires : goal.append_side-requires
+append_side-requires c =
+    let r = c.requires.ready in
+    let k = (goal.at.append_side-requires c).After-append in
+    record {
+      term = r.to;
+      written = r.written.new;
+      bound = all_bound r.from r.to _ c.in_ok-bound.field-0.bound c.args.supplied _ _ (fitted k r.from r.to r.written) r.provided c.or-bound.ensures;
+    }

@@ -55,3 +55,15 @@ returns c =
     let a = answered old c.args.events bs s says right inside c.rewrite.result c.rewrite.ensures.short
     (subst (λ (l : List ℕ). Rewritten l s.place (old_of q) (new_of q) s.supplied c.rewrite.result) c.as_bytes-old.ensures.bytes made) in
     record { answer = a.answer; one = step_one old c.args.events bs; whole = a.whole; step = a.step; derived = a.derived }
+
+pub rewrite-requires-clause-ready : goal.rewrite-requires-clause-ready
+rewrite-requires-clause-ready c =
+    let s = c.in_ok-said.said in
+    let q = request_of s in
+    let tested = c.supplies_lacked.ensures (old_of q) (new_of q) c.of-sides.ensures in
+    record {
+      from = old_of q;
+      to = new_of q;
+      written = c.of-sides.ensures;
+      provided = provided c.args.events c.args.bytes.now s c.in_ok-said.ensures.read (tested.0 c.if-not-supplies_lacked.false);
+    }
