@@ -60,7 +60,8 @@ impl<'a> Binding<'a> {
         }
     }
 
-    // Whether a test holds of each letter with what it is bound to.
+    // Whether a test holds of each letter with what it is bound to. Three calls are shorter than an array of the pairs
+    // and a chain over it.
     pub(crate) fn all<F: Fn(Variable, Option<&'a [u8]>) -> bool>(self, test: F) -> bool
         requires { F.IsAlwaysCallable test }
         ensures { MatchBool result ((v : Letter) → F.post test v (slot self.entry v) true) ((v : Letter) × F.post test v (slot self.entry v) false) }
