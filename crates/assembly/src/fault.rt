@@ -3,15 +3,15 @@ ghost use Rattle.std.specs.Prelude.{◌≡◌};
 ghost use Rattle.assembly.specs.declared.fault.BytesFault.TheVariants.{NoForm, Memory};
 
 use std::alloc::{AllocError, AllocFailed};
-use std::error::Error;
-use std::fmt;
+use thiserror::Error;
 use trees::refusal::TreeRefusal;
 
-#[derive(Clone, Copy, Debug, PartialEq, Eq, Hash)]
+#[derive(Clone, Copy, Debug, PartialEq, Eq, Error)]
 pub enum BytesFault {
     // What was to be written has no byte form, or the bytes are no such form.
+    #[error("it has no byte form")]
     NoForm,
-    // There is no memory left.
+    #[error("there is no memory left")]
     Memory,
 }
 
@@ -39,14 +39,3 @@ impl From<TreeRefusal> for BytesFault {
         Self::NoForm
     }
 }
-
-impl fmt::Display for BytesFault {
-    fn fmt<W: fmt::Write>(&self, f: &mut fmt::Formatter<W>) -> fmt::Result {
-        f.write_str(match self {
-            BytesFault::NoForm => "it has no byte form",
-            BytesFault::Memory => "there is no memory left",
-        })
-    }
-}
-
-impl Error for BytesFault {}
