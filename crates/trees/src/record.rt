@@ -20,18 +20,6 @@ pub enum Kind {
     Triggers,
 }
 
-// A byte that is no kind's.
-#[derive(Clone, Copy, Debug, PartialEq, Eq, Hash)]
-pub struct NoKind;
-
-impl From<NoKind> for TreeRefusal {
-    ghost from_gives = { λ _ refusal. refusal ≡ Form };
-
-    fn from(_no: NoKind) -> TreeRefusal {
-        TreeRefusal::Form
-    }
-}
-
 impl From<Kind> for u8 {
     ghost from_gives = { λ kind byte. byte ≡ kind_byte kind };
 
@@ -47,18 +35,18 @@ impl From<Kind> for u8 {
 }
 
 impl TryFrom<u8> for Kind {
-    type Error = NoKind;
+    type Error = TreeRefusal;
 
-    ghost try_from_gives = { λ byte r. MatchResult r (λ kind. kind_byte kind ≡ byte) (λ _. 4 < byte) };
+    ghost try_from_gives = { λ byte r. MatchResult r (λ kind. kind_byte kind ≡ byte) (λ e. (e ≡ Form) × (4 < byte)) };
 
-    fn try_from(byte: u8) -> Result<Kind, NoKind> {
+    fn try_from(byte: u8) -> Result<Kind, TreeRefusal> {
         match byte {
             0 => Ok(Kind::Joins(Gate::Or)),
             1 => Ok(Kind::Joins(Gate::And)),
             2 => Ok(Kind::Joins(Gate::Pand)),
             3 => Ok(Kind::Joins(Gate::Before)),
             4 => Ok(Kind::Triggers),
-            _ => Err(NoKind),
+            _ => Err(TreeRefusal::Form),
         }
     }
 }
