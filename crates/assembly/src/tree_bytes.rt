@@ -1,6 +1,5 @@
 // The bytes of a tree, written from its records, and the records read back.
-ghost use Rattle.std.specs.Prelude.{◌≡◌, ℕ, ◌<◌, List, ◌∷◌, length, IfErr, IfOk, MatchResult};
-ghost use Rattle.trees.specs.Records.{fields};
+ghost use Rattle.std.specs.Prelude.{◌≡◌, ℕ, ◌<◌, List, length, IfErr, IfOk, MatchResult};
 ghost use Rattle.trees.specs.declared.record.Record.{Record as TreeRecord};
 ghost use Rattle.assembly.specs.declared.fault.BytesFault.TheVariants.{NoForm};
 ghost use Rattle.assembly.specs.Faults.{WhereNone};
@@ -10,21 +9,11 @@ use crate::fault::BytesFault;
 use std::alloc::Global;
 use trees::record::{Record, read_record};
 
-// The map byte of a record that has all its fields.
-const ALL_FIELDS: u8 = 0b111;
-
 // How many events a tree has, and its records in order.
 #[derive(Drop)]
 pub struct Layout {
     pub events: u8,
     pub records: Vec<Record>,
-}
-
-// The bytes of a record, with all its fields.
-fn record_bytes(one: Record) -> [u8; 4]
-    ensures { result ≡ 7 ∷ fields one }
-{
-    [ALL_FIELDS, u8::from(one.kind()), one.first(), one.second()]
 }
 
 // The bytes of a tree. It has none where there are more records than one byte can count. They are read back as the same
@@ -38,7 +27,7 @@ pub fn write_tree(heap: Global, events: u8, records: &[Record]) -> Result<Vec<u8
     let count = u8::try_from(records.len()).map_err(|_| BytesFault::NoForm)?;
     let mut bytes = Vec::from_slice(heap, &[events, count])?;
     for one in records {
-        bytes.extend_from_slice(&record_bytes(*one))?;
+        bytes.extend_from_slice(&one.bytes())?;
     }
     Ok(bytes)
 }

@@ -51,6 +51,12 @@ impl TryFrom<u8> for Kind {
     }
 }
 
+// The map byte of a record without its kind: both inputs stand.
+const WITHOUT_KIND: u8 = 0b110;
+
+// The map byte of a record with all its fields: the kind stands too.
+const WITH_KIND: u8 = 0b111;
+
 // An input is the byte that is written, whatever it is: below 64 an event, and 64 + k the gate of record k.
 #[derive(Clone, Copy, Debug, PartialEq, Eq, Hash)]
 pub enum Record {
@@ -105,12 +111,14 @@ impl Record {
             Record::Triggers { dependent, .. } => dependent,
         }
     }
+
+    // Its bytes, with all its fields.
+    pub fn bytes(self) -> [u8; 4]
+        ensures { result ≡ 7 ∷ fields self }
+    {
+        [WITH_KIND, u8::from(self.kind()), self.first(), self.second()]
+    }
 }
-
-// The map bytes: both inputs stand, and the kind may stand too.
-const WITHOUT_KIND: u8 = 0b110;
-
-const WITH_KIND: u8 = 0b111;
 
 // The record at the front of the bytes, and the bytes after it.
 pub fn read_record(bytes: &[u8]) -> Result<(Record, &[u8]), TreeRefusal>

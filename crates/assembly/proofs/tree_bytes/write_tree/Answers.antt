@@ -7,7 +7,7 @@ loop-one-init c = written_none _ _ c.args.records.now _ c.in_ok-bytes.ensures.it
 
 pub loop-one-preserved : goal.loop-one-preserved
 loop-one-preserved c =
-    written_more c.args.events c.in_ok-count.count c.args.records.now c.loop-one.one-index _ (vec_items c.loop-one.bytes) _ c.record_bytes.result (omega arith) c.loop-one.invariant c.record_bytes.ensures c.in_ok-extend_from_slice.ensures.items
+    written_more c.args.events c.in_ok-count.count c.args.records.now c.loop-one.one-index _ (vec_items c.loop-one.bytes) _ c.bytes.result (omega arith) c.loop-one.invariant c.bytes.ensures c.in_ok-extend_from_slice.ensures.items
 
 pub returns : goal.returns
 returns c =
