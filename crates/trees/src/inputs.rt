@@ -66,7 +66,7 @@ impl Inputs {
     pub fn text(&self, input: u8) -> Option<&Text>
         ensures { option_map (λ x. x.now) result ≡ text_in (input_at self.now input) }
     {
-        Some(&self.get(input)?.text)
+        self.get(input).map(|held| &held.text)
     }
 
     // The input at a place has this text, which no record has read.
@@ -87,9 +87,7 @@ impl Inputs {
         ensures texts { (i : ℕ) → text_in (input_at self.new i) ≡ text_in (input_at self.old i) }
         ensures reads { (i : ℕ) → read_in (input_at self.new i) ≡ (i == place || read_in (input_at self.old i)) }
     {
-        if let Some(input) = &mut self.places[usize::from(place)] {
-            input.is_read = true;
-        }
+        self.places[usize::from(place)].as_mut().unwrap().is_read = true;
     }
 
     // Record k is a gate.

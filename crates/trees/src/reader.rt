@@ -10,7 +10,7 @@ use crate::refusal::TreeRefusal;
 use texts::text::Text;
 
 // How many events a tree has, and its source text.
-#[derive(Clone, Copy)]
+#[derive(Clone, Copy, Debug, PartialEq, Eq)]
 pub struct Tree {
     pub events: u8,
     pub source: Text,
