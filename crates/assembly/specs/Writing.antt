@@ -1,11 +1,13 @@
 -- What a step record is written from: its fields, and what can be said at all.
 -- Assumes nothing.
 use Rattle.std.specs.Prelude.{◌≡◌, ℕ, ◌+◌, ◌<◌, ◌≤◌, Bool, cond, List, [], ◌∷◌, ◌++◌, length, Some, None, All, Option, ◌==◌}
+use Rattle.assembly.specs.Faults.{WhereNone}
+use Rattle.assembly.specs.declared.fault.BytesFault.{BytesFault}
 use Rattle.algebra.specs.declared.Variable.{Variable}
 use Rattle.algebra.specs.declared.Variable.TheVariants.{X, Y, Z}
 use Rattle.algebra.specs.declared.Way.{Way}
 use Rattle.algebra.specs.declared.Way.TheVariants.{Forward, Backward}
-use Rattle.steps.specs.Records.{Field, the_rule, the_way, the_place, the_term, Written, WholeTerm, Request, supplied_for}
+use Rattle.steps.specs.Records.{Field, the_rule, the_way, the_place, the_term, Written, WholeTerm, Request, Says, supplied_for}
 
 -- the fields that are written: what is said without a field has none
 abbrev pub way_field : Way → Option Field
@@ -63,6 +65,10 @@ pub record Sayable (events : ℕ) (q : Request) : Type 0 where
 -- the values of bytes
 abbrev pub Bytes : List ℕ → Type 0
 Bytes bs = All (λ b. b < 256) bs
+
+-- where the fault is that there is no form: no bytes are a step record that says this
+abbrev pub NoBytesSay : BytesFault → ℕ → Request → Type 0
+NoBytesSay e events q = WhereNone e ((bs : List ℕ) → Bytes bs → Says events bs q → ⊥)
 
 -- the map byte of a record that has a rule, and of the other fields those that are flagged
 abbrev pub map_of : Bool → Bool → Bool → Bool → Bool → ℕ

@@ -1,11 +1,10 @@
 // The bytes of a step record, written from what it says.
-ghost use Rattle.std.specs.Prelude.{◌≡◌, ℕ, ◌+◌, ◌<◌, ◌≤◌, ◌&&◌, List, ◌∷◌, ◌++◌, length, is_some, map, All, IfOk, Some, Decides, MatchResult, OnOk};
+ghost use Rattle.std.specs.Prelude.{◌≡◌, ℕ, ◌+◌, ◌<◌, ◌≤◌, ◌&&◌, ◌∷◌, ◌++◌, length, is_some, map, All, IfOk, Some, Decides, MatchResult, OnOk};
 ghost use Rattle.std.specs.Option.{option_map};
 ghost use Rattle.algebra.specs.declared.Variable.{Variable as Letter};
 ghost use Rattle.steps.specs.Readings.{bytes_of, field_of, request_of};
 ghost use Rattle.steps.specs.Records.{Request, Says, the_term};
-ghost use Rattle.assembly.specs.Faults.{WhereNone};
-ghost use Rattle.assembly.specs.Writing.{Added, AddedIf, Bytes, Each, Fits, Sayable, Sized, WritableTerm, fields_of, map_of_all, place_field, term_field, way_field};
+ghost use Rattle.assembly.specs.Writing.{Added, AddedIf, Each, Fits, NoBytesSay, Sayable, Sized, WritableTerm, fields_of, map_of_all, place_field, term_field, way_field};
 
 use crate::fault::BytesFault;
 use algebra::{Variable, Way};
@@ -18,10 +17,7 @@ use texts::scan::is_whole;
 fn way_field<'a>(way: Way) -> Option<StepField<'a>>
     ensures { option_map field_of result ≡ way_field way }
 {
-    match way {
-        Way::Forward => None,
-        Way::Backward => Some(StepField::Way(way)),
-    }
+    (way == Way::Backward).then_some(StepField::Way(way))
 }
 
 // The place of a step as a field; place 0 has none.
@@ -77,8 +73,7 @@ fn add_field(out: &mut Vec<u8>, field: StepField<'_>) -> Result<(), AllocError>
 {
     match field {
         StepField::Rule(rule) => out.push(rule)?,
-        StepField::Way(Way::Forward) => out.push(0)?,
-        StepField::Way(Way::Backward) => out.push(1)?,
+        StepField::Way(way) => out.push(u8::from(way))?,
         StepField::Place(place) => { out.extend_from_slice(&(place as u16).to_be_bytes())? }
         StepField::Supply(_, term) => add_term(out, term)?,
     }
@@ -133,7 +128,7 @@ fn is_sayable(said: &StepRecord<'_>, events: u8) -> bool
 
 // The bytes of a step record, for a tree with so many events. What has none cannot be said by any bytes.
 pub fn write_step(heap: Global, events: u8, said: &StepRecord<'_>) -> Result<Vec<u8>, BytesFault>
-    ensures written { MatchResult result (λ v. Says events v.items (request_of said.now)) (λ e. WhereNone e ((bs : List ℕ) → Bytes bs → Says events bs (request_of said.now) → ⊥)) }
+    ensures written { MatchResult result (λ v. Says events v.items (request_of said.now)) (λ e. NoBytesSay e events (request_of said.now)) }
     ensures back { IfOk result (λ v. (q : Request) → Says events v.items q → q ≡ request_of said.now) }
 {
     if !is_sayable(said, events) {

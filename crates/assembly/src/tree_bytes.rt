@@ -10,7 +10,7 @@ use std::alloc::Global;
 use trees::record::{Record, read_record};
 
 // How many events a tree has, and its records in order.
-#[derive(Drop)]
+#[derive(Debug, PartialEq, Eq, Drop)]
 pub struct Layout {
     pub events: u8,
     pub records: Vec<Record>,
@@ -38,7 +38,8 @@ fn read_records(heap: Global, count: u8, bytes: &[u8]) -> Result<Vec<Record>, By
 {
     let mut records = Vec::new(heap);
     let mut rest = bytes;
-    for k in 0..count {
+    // A loop, since each record begins where the one before it ends, and both steps may fail.
+    for _ in 0..count {
         let (one, after) = read_record(rest)?;
         records.push(one)?;
         rest = after;
