@@ -116,7 +116,8 @@ impl Record {
     pub fn bytes(self) -> [u8; 4]
         ensures { result ≡ 7 ∷ fields self }
     {
-        [WITH_KIND, u8::from(self.kind()), self.first(), self.second()]
+        let kind = u8::from(self.kind());
+        [WITH_KIND, kind, self.first(), self.second()]
     }
 }
 
