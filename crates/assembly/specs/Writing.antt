@@ -1,13 +1,13 @@
 -- What a step record is written from: its fields, and what can be said at all.
 -- Assumes nothing.
 use Rattle.std.specs.Prelude.{◌≡◌, ℕ, ◌+◌, ◌<◌, ◌≤◌, Bool, cond, List, [], ◌∷◌, ◌++◌, length, Some, None, All, Option, ◌==◌}
-use Rattle.assembly.specs.Faults.{WhereNone}
-use Rattle.assembly.specs.declared.fault.BytesFault.{BytesFault}
 use Rattle.algebra.specs.declared.Variable.{Variable}
 use Rattle.algebra.specs.declared.Variable.TheVariants.{X, Y, Z}
 use Rattle.algebra.specs.declared.Way.{Way}
 use Rattle.algebra.specs.declared.Way.TheVariants.{Forward, Backward}
 use Rattle.steps.specs.Records.{Field, the_rule, the_way, the_place, the_term, Written, WholeTerm, Request, Says, supplied_for}
+use Rattle.assembly.specs.Faults.{WhereNone}
+use Rattle.assembly.specs.declared.fault.BytesFault.{BytesFault}
 
 -- the fields that are written: what is said without a field has none
 abbrev pub way_field : Way → Option Field
