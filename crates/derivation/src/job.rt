@@ -8,32 +8,21 @@ use crate::bench::Bench;
 use algebra::Refusal;
 use sequences::refusals::CloseRefusal;
 use sequences::table::Table;
-use std::error::Error;
-use std::fmt;
 use steps::file::{StepFault, at_step};
 use steps::records::Records;
+use thiserror::Error;
 use trees::refusal::TreeRefusal;
 
 // Where a job was refused, and why.
-#[derive(Clone, Copy, Debug, PartialEq, Eq)]
+#[derive(Clone, Copy, Debug, PartialEq, Eq, Error)]
 pub enum JobFault {
+    #[error("tree {}", .0.code())]
     Tree(TreeRefusal),
+    #[error("step {} {}", .0.step, .0.refusal.code())]
     Step(StepFault),
+    #[error("close {}", .0.code())]
     Close(CloseRefusal),
 }
-
-// The one line of a refusal.
-impl fmt::Display for JobFault {
-    fn fmt<W: fmt::Write>(&self, f: &mut fmt::Formatter<W>) -> fmt::Result {
-        match self {
-            JobFault::Tree(tree) => write!(f, "tree {}", tree.code()),
-            JobFault::Step(step) => write!(f, "step {} {}", step.step, step.refusal.code()),
-            JobFault::Close(close) => write!(f, "close {}", close.code()),
-        }
-    }
-}
-
-impl Error for JobFault {}
 
 impl From<TreeRefusal> for JobFault {
     ghost from_gives = { λ e f. f ≡ fault.Tree e };

@@ -1,14 +1,17 @@
 // Why a text is not closed, a table not dated and a line not printed.
 use algebra::Refusal;
-use std::error::Error;
-use std::fmt;
+use thiserror::Error;
 
 // Why a text does not close into a table. `NoTree` is for callers whose text comes from a tree that has to be open.
-#[derive(Clone, Copy, Debug, PartialEq, Eq)]
+#[derive(Clone, Copy, Debug, PartialEq, Eq, Error)]
 pub enum CloseRefusal {
+    #[error("no tree is open")]
     NoTree,
+    #[error("the text is no sum and not N")]
     NoSum,
+    #[error("it has more than 64 sequences")]
     TooMany,
+    #[error("a sequence is impossible")]
     ImpossibleSequence,
 }
 
@@ -29,22 +32,10 @@ impl Refusal for CloseRefusal {
     }
 }
 
-impl fmt::Display for CloseRefusal {
-    fn fmt<W: fmt::Write>(&self, f: &mut fmt::Formatter<W>) -> fmt::Result {
-        f.write_str(match self {
-            CloseRefusal::NoTree => "no tree is open",
-            CloseRefusal::NoSum => "the text is no sum and not N",
-            CloseRefusal::TooMany => "it has more than 64 sequences",
-            CloseRefusal::ImpossibleSequence => "a sequence is impossible",
-        })
-    }
-}
-
-impl Error for CloseRefusal {}
-
 // Why a table has no date: there are not exactly 24 dates.
-#[derive(Clone, Copy, Debug, PartialEq, Eq)]
+#[derive(Clone, Copy, Debug, PartialEq, Eq, Error)]
 pub enum TableRefusal {
+    #[error("the dating has not exactly 24 dates")]
     NoDating,
 }
 
@@ -62,20 +53,12 @@ impl Refusal for TableRefusal {
     }
 }
 
-impl fmt::Display for TableRefusal {
-    fn fmt<W: fmt::Write>(&self, f: &mut fmt::Formatter<W>) -> fmt::Result {
-        f.write_str(match self {
-            TableRefusal::NoDating => "the dating has not exactly 24 dates",
-        })
-    }
-}
-
-impl Error for TableRefusal {}
-
 // Why a line is not printed: the buffer has fewer than 512 bytes, or the table has no such row.
-#[derive(Clone, Copy, Debug, PartialEq, Eq)]
+#[derive(Clone, Copy, Debug, PartialEq, Eq, Error)]
 pub enum LineRefusal {
+    #[error("the buffer has under 512 bytes")]
     SmallBuffer,
+    #[error("the table has no such row")]
     NoRow,
 }
 
@@ -93,14 +76,3 @@ impl Refusal for LineRefusal {
         }
     }
 }
-
-impl fmt::Display for LineRefusal {
-    fn fmt<W: fmt::Write>(&self, f: &mut fmt::Formatter<W>) -> fmt::Result {
-        f.write_str(match self {
-            LineRefusal::SmallBuffer => "the buffer has under 512 bytes",
-            LineRefusal::NoRow => "the table has no such row",
-        })
-    }
-}
-
-impl Error for LineRefusal {}
