@@ -69,9 +69,7 @@ impl Table {
         if !has_room(buffer) {
             return Err(LineRefusal::SmallBuffer);
         }
-        if row >= self.len {
-            return Err(LineRefusal::NoRow);
-        }
-        Ok(Line::of(&self.rows[row]).copy_to(buffer))
+        let row = self.rows[..self.len].get(row).ok_or(LineRefusal::NoRow)?;
+        Ok(Line::of(row).copy_to(buffer))
     }
 }
