@@ -1,7 +1,8 @@
 -- One byte more, as the code keeps it.
 -- Assumes nothing.
-use Rattle.std.proofs.Common.{◌≡◌, ℕ, ◌+◌, ◌-◌, ◌<◌, ◌≤◌, Bool, true, false, cond, not, ◌&&◌, T, eqb, leb, List, [], ◌∷◌, ◌++◌, length, get_or, take, set, Some, None, Option, sym, refl, ap, ◌∙◌, subst, ap₂, inl, inr, add-one, arith, leb→le, length-append, take-suc}
+use Rattle.std.proofs.Common.{◌≡◌, ◌≢◌, ℕ, ◌+◌, ◌-◌, ◌<◌, ◌≤◌, Bool, true, false, cond, not, ◌&&◌, T, eqb, leb, List, [], ◌∷◌, ◌++◌, length, get_or, take, set, Some, None, Option, sym, refl, ap, ◌∙◌, subst, ap₂, inl, inr, add-one, arith, leb→le, length-append, take-suc}
 use Rattle.std.proofs.lemmas.Bool.{cond_both, cases_lt, eqb-false}
+use Rattle.algebra.specs.Texts.{event_byte}
 use Rattle.sequences.specs.Rows.{Fitting, absent, blank, entered, padded}
 use Rattle.sequences.specs.Scans.{State, Keeps, Ready, after, advanced, begun, completed, is_letter, moved, reading_at, run, start, step, step_of, stepped}
 use Rattle.sequences.specs.declared.row.Factor.{Factor}
@@ -11,7 +12,7 @@ use Rattle.sequences.specs.declared.scan.Reading.{Reading}
 use Rattle.sequences.specs.declared.scan.Step.{Step}
 use Rattle.sequences.specs.declared.scan.Wants.{Wants}
 use Rattle.sequences.specs.declared.scan.Wants.TheVariants.{Sum, Part, First, Second, End, Nothing}
-use Rattle.sequences.proofs.Tests.{T_is, and_out, is_T}
+use Rattle.sequences.proofs.Tests.{T_is, and_out, is_T, not_T_is}
 use Rattle.sequences.proofs.Padded.{padded_blank, padded_past, padded_set, padded_last}
 
 abbrev FitsIf : Option Factor → Type 0
@@ -29,6 +30,12 @@ letter_low : (b : ℕ) → is_letter b ≡ true → b - 97 < 24
 letter_low b e =
     let k = and_out (leb 97 b) (leb b 120) (is_T _ e) in
     let l = leb→le b 120 k.1 in omega arith
+
+pub no_letter : (b : ℕ) → ((v : ℕ) → v < 24 → b ≢ event_byte v) → is_letter b ≡ false
+no_letter b h = not_T_is (is_letter b) (λ t.
+    let k = and_out (leb 97 b) (leb b 120) t in
+    let low = leb→le 97 b k.0 in
+    h (b - 97) (letter_low b (T_is _ t)) (omega arith))
 
 onward_good : (p s : ℕ) (f : Factor) → Fitting f → Good p s (completed p s f)
 onward_good p s f h = go (eqb p 0) (eqb s 0)

@@ -1,9 +1,10 @@
 // Reads a sum of sequences byte by byte, from the left, and enters each factor into the row of its sequence.
 ghost use Rattle.std.specs.Prelude.{◌≡◌, ◌==◌, ◌<◌, ◌≤◌, length};
-ghost use Rattle.sequences.specs.Scans.{Keeps, begun, completed, is_end, is_letter, moved, onward, reading_at, run, start, step_of};
+ghost use Rattle.sequences.specs.Scans.{Keeps, begun, completed, is_end, moved, onward, reading_at, run, start, step_of};
 ghost use Rattle.sequences.specs.declared.scan.Wants.TheVariants.{First, Second, Sum};
 
 use crate::row::{Factor, Row, Sign};
+use algebra::event_of;
 
 // What the next byte is to begin.
 #[derive(Clone, Copy)]
@@ -37,12 +38,6 @@ pub struct Scan {
     pub reading: Reading,
     pub rows: [Row; 64],
     pub count: usize,
-}
-
-fn is_letter(byte: u8) -> bool
-    ensures { result ≡ is_letter byte }
-{
-    matches!(byte, b'a'..=b'x')
 }
 
 impl Reading {
@@ -114,23 +109,23 @@ impl Reading {
     }
 
     // A byte where a part of a sequence begins.
+    #[tactic(auto, using(crate::proofs::Scanning::no_letter))]
     fn begins(self, byte: u8) -> Step
         requires { self.parts < 511 }
         ensures { result ≡ begun self.parts self.sums byte }
     {
         match byte {
-            b'*' => Step {
-                next: Reading {
-                    wants: Wants::Part,
-                    parts: self.parts + 1,
-                    ..self
-                },
-                factor: None,
-            },
+            b'*' => Reading {
+                parts: self.parts + 1,
+                ..self
+            }
+            .moves(Wants::Part),
             b'<' => self.moves(Wants::First(Sign::Precedes)),
             b'=' => self.moves(Wants::First(Sign::Ties)),
-            b'a'..=b'x' => self.completes(Factor::Letter(byte - b'a')),
-            _ => self.moves(Wants::Nothing),
+            _ => match event_of(byte) {
+                Some(v) => self.completes(Factor::Letter(v)),
+                None => self.moves(Wants::Nothing),
+            },
         }
     }
 
@@ -140,38 +135,35 @@ impl Reading {
         ensures { result ≡ step_of Sum self.parts self.sums byte }
     {
         if byte == b'+' {
-            Step {
-                next: Reading {
-                    wants: Wants::Sum,
-                    sums: self.sums + 1,
-                    ..self
-                },
-                factor: None,
+            Reading {
+                sums: self.sums + 1,
+                ..self
             }
+            .moves(Wants::Sum)
         } else {
             self.begins(byte)
         }
     }
 
     // The first letter of a pair.
+    #[tactic(auto, using(crate::proofs::Scanning::no_letter))]
     fn first(self, sign: Sign, byte: u8) -> Step
         ensures { result ≡ step_of (First sign) self.parts self.sums byte }
     {
-        if is_letter(byte) {
-            self.moves(Wants::Second(sign, byte - b'a'))
-        } else {
-            self.moves(Wants::Nothing)
+        match event_of(byte) {
+            Some(v) => self.moves(Wants::Second(sign, v)),
+            None => self.moves(Wants::Nothing),
         }
     }
 
     // The second letter of a pair, which is another.
+    #[tactic(auto, using(crate::proofs::Scanning::no_letter))]
     fn second(self, sign: Sign, v: u8, byte: u8) -> Step
         ensures { result ≡ step_of (Second sign v) self.parts self.sums byte }
     {
-        if is_letter(byte) && byte - b'a' != v {
-            self.completes(Factor::Pair(sign, v, byte - b'a'))
-        } else {
-            self.moves(Wants::Nothing)
+        match event_of(byte) {
+            Some(w) if w != v => self.completes(Factor::Pair(sign, v, w)),
+            _ => self.moves(Wants::Nothing),
         }
     }
 
