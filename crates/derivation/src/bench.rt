@@ -92,7 +92,7 @@ impl Bench {
     }
 }
 
-// What is asked without a change.
+// What is asked without a change. The dates of the two texts are two questions of the interface.
 impl Bench {
     ghost use Rattle.derivation.specs.Stands.{Stands};
 

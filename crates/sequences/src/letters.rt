@@ -18,7 +18,7 @@ pub fn member(set: u32, v: u8) -> bool
 }
 
 // Of each of the 24 letters, a set of letters.
-#[derive(Clone, Copy)]
+#[derive(Clone, Copy, Debug, PartialEq, Eq)]
 pub struct LetterSets {
     pub of: [u32; 24],
 }

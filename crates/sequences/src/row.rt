@@ -5,7 +5,7 @@ ghost use Rattle.sequences.specs.Rows.{Fitting, blank, entered};
 use crate::letters::LetterSets;
 
 // A set of letters, and of each letter the letters that it precedes and those that it ties.
-#[derive(Clone, Copy)]
+#[derive(Clone, Copy, Debug, PartialEq, Eq)]
 pub struct Row {
     pub letters: u32,
     pub before: LetterSets,
@@ -13,14 +13,14 @@ pub struct Row {
 }
 
 // What a pair is written with: '<' or '='.
-#[derive(Clone, Copy)]
+#[derive(Clone, Copy, Debug, PartialEq, Eq)]
 pub enum Sign {
     Precedes,
     Ties,
 }
 
 // A letter, or a pair of two.
-#[derive(Clone, Copy)]
+#[derive(Clone, Copy, Debug, PartialEq, Eq)]
 pub enum Factor {
     Letter(u8),
     Pair(Sign, u8, u8),

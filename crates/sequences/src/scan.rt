@@ -6,7 +6,8 @@ ghost use Rattle.sequences.specs.declared.scan.Wants.TheVariants.{First, Second,
 use crate::row::{Factor, Row, Sign};
 use algebra::event_of;
 
-// What the next byte is to begin.
+// What the next byte is to begin. After a byte that fits nowhere that is nothing, a state as the others are: the
+// definition too reads on to the end of the text.
 #[derive(Clone, Copy)]
 pub enum Wants {
     Sum,
@@ -167,7 +168,8 @@ impl Reading {
         }
     }
 
-    // One byte more.
+    // One byte more. This is a reader by states, as the definition has it. Each count grows by one at most, and a text
+    // has at most 511 bytes, so neither gets to 511 before its last byte.
     fn step(self, byte: u8) -> Step
         requires { (self.parts < 511) × (self.sums < 511) }
         ensures { result ≡ step_of self.wants self.parts self.sums byte }
@@ -194,6 +196,7 @@ pub fn scan_sum(text: &[u8]) -> Scan
         let step = reading.step(*byte);
         if let Some(factor) = step.factor {
             if count < 64 {
+                // A row of a plain array is lent.
                 rows[count].enter(factor);
             }
             if reading.is_last() {

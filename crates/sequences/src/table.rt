@@ -6,10 +6,10 @@ mod closing;
 mod date;
 mod methods;
 
-// At most 64 rows; the unused ones are blank. Clauses see the list of the rows. That each line fits into 512 bytes holds
+// At most 64 rows in fixed memory, so an array and a count; the unused rows are blank. Clauses see the list of the rows. That each line fits into 512 bytes holds
 // because a table is only made from a text, which has at most 511, and the line of a sequence is at most one byte longer
 // than the text that it stands in.
-#[derive(Clone, Copy)]
+#[derive(Clone, Copy, Debug)]
 pub struct Table {
     rows: [Row; 64],
     len: usize,

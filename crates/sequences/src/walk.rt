@@ -7,7 +7,7 @@ ghost use Rattle.sequences.specs.Walks.{Closes, Impossible, Low, Sound, any, via
 use crate::letters::{LetterSets, member};
 use crate::row::Row;
 
-// Of each letter, the letters that it links to.
+// Links, which are of each letter the letters that one can go on to, are closed under going on.
 impl LetterSets {
     // The links, and those by way of k.
     fn passing(self, k: u8) -> LetterSets
@@ -47,7 +47,7 @@ impl Row {
     }
 
     // One can walk from a letter back to itself along '<' and '=', using at least one '<'. That the row is sound is asked
-    // here alone, and a table keeps it for its rows: no other method needs it.
+    // for this question alone, and a table keeps it for its rows.
     pub fn impossible(&self) -> bool
         requires { Sound self.now }
         ensures { Decides result (Impossible self.now) }

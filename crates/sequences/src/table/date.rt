@@ -12,6 +12,7 @@ use dates::Date;
 use texts::dating::Dating;
 
 // The earliest of the rows' dates, the first such row's, and never if there are no rows.
+// A loop: as `rev().fold(..)` the goals stay open in the generic D.
 fn earliest<D: Date>(rows: &[Row], dating: &Dating<'_, D>) -> D
     ensures { result ≡ table_date D.kind (dating_of D.kind dating.now) rows.now }
 {

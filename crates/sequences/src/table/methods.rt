@@ -44,7 +44,8 @@ impl Table {
         self.len == 0
     }
 
-    // Closes the text: the table then holds the rows of its sequences. A refusal leaves the table as it was.
+    // Closes the text: the table then holds the rows of its sequences. A refusal leaves the table as it was; callers speak
+    // of the table before and after, so it is lent and written.
     pub fn close(&mut self, text: &[u8]) -> Result<(), CloseRefusal>
         ensures outcome { Closed text.now (λ _. Holds text.now self.new) result }
         ensures only { (s : Result (Unit {0}) CloseRefusal) → Closed text.now (λ _. Holds text.now self.new) s → s ≡ result }
@@ -59,7 +60,8 @@ impl Table {
         Ok(())
     }
 
-    // Prints the row's line at the front of the buffer, and answers its length. A refusal leaves the buffer as it was.
+    // Prints the row's line at the front of the buffer, and answers its length. The caller lends the memory, and too little
+    // is a refusal of the interface. A refusal leaves the buffer as it was.
     pub fn line(&self, row: usize, buffer: &mut [u8]) -> Result<usize, LineRefusal>
         ensures outcome { LineAnswered self.now row buffer.old buffer.new result }
         ensures only { (s : Result ℕ LineRefusal) → LineAnswered self.now row buffer.old buffer.new s → s ≡ result }
