@@ -1,16 +1,25 @@
 -- Rows, and what a factor adds to one.
 -- Assumes nothing.
-use Rattle.std.specs.Prelude.{ℕ, zero, suc, ◌^◌, ◌<◌, Bool, List, [], ◌∷◌, replicate, ◌≢◌, bit_or}
+use Rattle.std.specs.Prelude.{◌≡◌, ℕ, zero, suc, ◌^◌, ◌<◌, Bool, List, [], ◌∷◌, replicate, ◌≢◌, bit_or}
 use Rattle.sequences.specs.Masks.{has, linked, added}
 use Rattle.sequences.specs.declared.row.Row.{Row}
 use Rattle.sequences.specs.declared.row.Factor.{Factor}
 use Rattle.sequences.specs.declared.row.Factor.TheVariants.{Letter, Pair}
+use Rattle.sequences.specs.declared.row.Sign.{Sign}
 use Rattle.sequences.specs.declared.row.Sign.TheVariants.{Precedes, Ties}
 
 -- its letters are among the 24, and those of a pair differ
 abbrev pub Fitting : Factor → Type 0
 Fitting (Letter v) = v < 24
 Fitting (Pair sign v w) = (v < 24) × (w < 24) × (v ≢ w)
+
+-- what a pair is written with
+abbrev pub sign_byte : Sign → ℕ
+sign_byte Precedes = 60
+sign_byte Ties = 61
+
+abbrev pub SignByte : Sign → ℕ → Type 0
+SignByte s b = b ≡ sign_byte s
 
 -- the row with the factor's letter or pair; a tie stands at both its letters
 abbrev pub entered : Factor → Row → Row

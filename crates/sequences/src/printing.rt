@@ -84,8 +84,7 @@ impl Line {
         self.space();
         match item {
             Factor::Letter(v) => self.push(b'a' + v),
-            Factor::Pair(Sign::Precedes, v, w) => self.pair(b'<', v, w),
-            Factor::Pair(Sign::Ties, v, w) => self.pair(b'=', v, w),
+            Factor::Pair(sign, v, w) => self.pair(u8::from(sign), v, w),
         }
     }
 

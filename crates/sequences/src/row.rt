@@ -1,6 +1,6 @@
 // The row of a sequence: its letters and pairs, as sets of letters.
 ghost use Rattle.std.specs.Prelude.{◌≡◌};
-ghost use Rattle.sequences.specs.Rows.{Fitting, blank, entered};
+ghost use Rattle.sequences.specs.Rows.{Fitting, SignByte, blank, entered};
 
 use crate::letters::LetterSets;
 
@@ -17,6 +17,17 @@ pub struct Row {
 pub enum Sign {
     Precedes,
     Ties,
+}
+
+impl From<Sign> for u8 {
+    ghost from_gives = { SignByte };
+
+    fn from(sign: Sign) -> u8 {
+        match sign {
+            Sign::Precedes => b'<',
+            Sign::Ties => b'=',
+        }
+    }
 }
 
 // A letter, or a pair of two.
