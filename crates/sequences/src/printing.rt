@@ -8,7 +8,8 @@ use crate::letters::member;
 use crate::row::{Factor, Row, Sign};
 use std::marker::Model;
 
-// A line as far as it is written. Clauses see its bytes.
+// A line as far as it is written. Clauses see its bytes. It has an array and a count of its own: only four short
+// methods see them, and for these the crate takes no vector from elsewhere.
 #[derive(Drop)]
 pub struct Line {
     bytes: [u8; 512],

@@ -24,7 +24,8 @@ impl LetterSets {
         out
     }
 
-    // The links closed under going on.
+    // The links closed under going on. A loop, whose invariant says how far it came: after k turns, one goes on by way of
+    // the letters below k.
     fn closed(self) -> LetterSets
         requires { Low (linked self.of) }
         ensures { Closes (linked self.of) (linked result.of) }
