@@ -18,9 +18,10 @@ mod words;
 // How many entries the log of this program has room for.
 const ROOM: usize = 16;
 
-// The number of its log, and who holds it.
+// The number of its log.
 const LOG: u8 = 7;
 
+// Who holds the log.
 const CUSTODIAN: u8 = 1;
 
 // The bytes of a file; one that cannot be read counts as empty.
@@ -36,17 +37,15 @@ fn told(bytes: &[u8]) -> Tick {
 // Enters what `entries.bin` holds: for each entry an event and four bytes of date.
 fn tell_entries(rt: &impl Print, log: &mut Log<Tick>, bytes: &[u8]) -> io::Result<()> {
     for one in bytes.chunks(5) {
-        let [event, date @ ..] = one else {
-            return Ok(());
-        };
+        let (event, date) = one.split_first().unwrap();
         let name = letter(*event);
         let when = told(date);
         match log.enter(*event, date) {
             Ok(()) => println!(rt; "entry: {name} at {when}")?,
-            Err(refusal) => {
-                let code = refusal.code();
-                println!(rt; "entry: {name} at {when}, refused with {code}: {refusal}")?
-            }
+            Err(refusal) => println!(rt;
+                "entry: {name} at {when}, refused with {}: {refusal}",
+                refusal.code()
+            )?,
         }
     }
     Ok(())
@@ -56,10 +55,10 @@ fn tell_entries(rt: &impl Print, log: &mut Log<Tick>, bytes: &[u8]) -> io::Resul
 fn tell_drop(rt: &impl Print, dropped: Result<(), LogRefusal>, kept: usize) -> io::Result<()> {
     match dropped {
         Ok(()) => println!(rt; "  granted, {kept} entries are kept"),
-        Err(refusal) => {
-            let code = refusal.code();
-            println!(rt; "  refused with {code}: {refusal}; {kept} entries are kept")
-        }
+        Err(refusal) => println!(rt;
+            "  refused with {}: {refusal}; {kept} entries are kept",
+            refusal.code()
+        ),
     }
 }
 
@@ -73,10 +72,7 @@ fn tell_holds(rt: &impl Print, log: &mut Log<Tick>, bytes: &[u8]) -> io::Result<
             let holder = attempt.custodian;
             println!(rt; "custodian {holder} lifts the hold; drop before {when}:")?;
         }
-        Err(refusal) => {
-            let code = refusal.code();
-            println!(rt; "  the hold is refused with {code}")?;
-        }
+        Err(refusal) => println!(rt; "  the hold is refused with {}", refusal.code())?,
     }
     let dropped = log.drop_before(bytes);
     tell_drop(rt, dropped, log.kept())
@@ -98,11 +94,9 @@ fn tell_terms(rt: &impl Print, text: &[u8], dating: &[Tick]) -> io::Result<()> {
 // The log's dates of the tree's events, and the dates of its terms.
 fn tell_dates(rt: &impl Print, log: &Log<Tick>, tree: &Tree) -> io::Result<()> {
     let dating = log.dating();
-    for event in 0..tree.events {
+    for (event, tick) in (0..tree.events).zip(&dating) {
         let name = letter(event);
-        if let Ok(tick) = log.date_of(event) {
-            println!(rt; "event {name} is dated {tick}")?;
-        }
+        println!(rt; "event {name} is dated {tick}")?;
     }
     tell_terms(rt, tree.source.as_bytes(), &dating)
 }
@@ -116,10 +110,7 @@ fn tell_tree(rt: &impl Print, tree: &Tree) -> io::Result<()> {
 fn main(rt: HostRuntime) -> io::Result<()> {
     let bytes = file(&rt, "tree.bin");
     match read_tree(bytes.as_slice()) {
-        Err(refusal) => {
-            let code = refusal.code();
-            println!(rt; "tree.bin is refused with {code}: {refusal}")
-        }
+        Err(refusal) => println!(rt; "tree.bin is refused with {}: {refusal}", refusal.code()),
         Ok(tree) => {
             tell_tree(&rt, &tree)?;
             let mut memory = [Entry {
