@@ -22,10 +22,12 @@ fn leads(rt: &impl Abort, old: &[u8], bytes: &[u8], new: &[u8]) -> Result<(), Fa
     Ok(())
 }
 
-// The number of the refusal of a step, or 0.
-fn code_of(rt: &impl Abort, old: &[u8], bytes: &[u8]) -> u8 {
+// The number of the refusal of a step.
+fn code_of(rt: &impl Abort, old: &[u8], bytes: &[u8]) -> Option<u8> {
     let text = text_of(rt, old);
-    apply_step(&text, 3, bytes).map_or_else(|refusal| refusal.code(), |_| 0)
+    apply_step(&text, 3, bytes)
+        .err()
+        .map(|refusal| refusal.code())
 }
 
 #[test]
@@ -308,39 +310,43 @@ fn the_longest_text(rt: HostRuntime) -> Result<(), Fail> {
     let bytes = made.as_bytes();
     assert!(rt; bytes.len() == 511);
     assert!(rt; bytes[0] == b'+' && &bytes[1..256] == short && &bytes[256..511] == short);
-    assert_eq!(rt; code_of(&rt, &sum, &[3, 3, 1]), 16);
+    assert_eq!(rt; code_of(&rt, &sum, &[3, 3, 1]), Some(16));
     Ok(())
 }
 
 #[test]
 fn a_record_breaks_its_form(rt: HostRuntime) {
-    assert_eq!(rt; code_of(&rt, b"+ab", &[]), 12, "no map");
-    assert_eq!(rt; code_of(&rt, b"+ab", &[0]), 12, "no rule");
-    assert_eq!(rt; code_of(&rt, b"+ab", &[0x41, 1]), 12, "bit 6");
-    assert_eq!(rt; code_of(&rt, b"+ab", &[1, 0]), 12, "rule 0");
-    assert_eq!(rt; code_of(&rt, b"+ab", &[1, 43]), 12, "rule 43");
-    assert_eq!(rt; code_of(&rt, b"+ab", &[3, 1, 2]), 12, "way 2");
-    assert_eq!(rt; code_of(&rt, b"+ab", &[5, 1, 0]), 12, "half a place");
-    assert_eq!(rt; code_of(&rt, b"+ab", &[1, 1, 0]), 12, "bytes left over");
-    assert_eq!(rt; code_of(&rt, b"a", &[0x11, 42, 0]), 12, "length 0");
+    assert_eq!(rt; code_of(&rt, b"+ab", &[]), Some(12), "no map");
+    assert_eq!(rt; code_of(&rt, b"+ab", &[0]), Some(12), "no rule");
+    assert_eq!(rt; code_of(&rt, b"+ab", &[0x41, 1]), Some(12), "bit 6");
+    assert_eq!(rt; code_of(&rt, b"+ab", &[1, 0]), Some(12), "rule 0");
+    assert_eq!(rt; code_of(&rt, b"+ab", &[1, 43]), Some(12), "rule 43");
+    assert_eq!(rt; code_of(&rt, b"+ab", &[3, 1, 2]), Some(12), "way 2");
+    assert_eq!(rt; code_of(&rt, b"+ab", &[5, 1, 0]), Some(12), "half a place");
+    assert_eq!(rt;
+        code_of(&rt, b"+ab", &[1, 1, 0]),
+        Some(12),
+        "bytes left over"
+    );
+    assert_eq!(rt; code_of(&rt, b"a", &[0x11, 42, 0]), Some(12), "length 0");
     assert_eq!(rt;
         code_of(&rt, b"a", &[0x11, 42, 2, b'b']),
-        12,
+        Some(12),
         "a term cut off"
     );
     assert_eq!(rt;
         code_of(&rt, b"a", &[0x11, 42, 1, b'+']),
-        12,
+        Some(12),
         "no whole term"
     );
     assert_eq!(rt;
         code_of(&rt, b"a", &[0x11, 42, 2, b'b', b'b']),
-        12,
+        Some(12),
         "two terms"
     );
     assert_eq!(rt;
         code_of(&rt, b"a", &[0x11, 42, 1, b'd']),
-        12,
+        Some(12),
         "no event of the tree"
     );
 }
@@ -348,27 +354,27 @@ fn a_record_breaks_its_form(rt: HostRuntime) {
 #[test]
 fn each_other_refusal(rt: HostRuntime) -> Result<(), Fail> {
     assert_eq!(rt; StepRefusal::NoTree.code(), 11);
-    assert_eq!(rt; code_of(&rt, b"a", &[1, 42]), 13, "a lacked term");
+    assert_eq!(rt; code_of(&rt, b"a", &[1, 42]), Some(13), "a lacked term");
     assert_eq!(rt;
         code_of(&rt, b"+ab", &[9, 1, 1, b'a']),
-        13,
+        Some(13),
         "a term too many"
     );
     assert_eq!(rt;
         code_of(&rt, b"a", &[0x15, 42, 0, 1, 1, b'b']),
-        14,
+        Some(14),
         "at the end"
     );
     assert_eq!(rt;
         code_of(&rt, b"a", &[5, 42, 0, 9]),
-        13,
+        Some(13),
         "13 comes before 14"
     );
-    assert_eq!(rt; code_of(&rt, b"+ab", &[1, 5]), 15, "another operator");
-    assert_eq!(rt; code_of(&rt, b"+ab", &[1, 3]), 15, "two terms for X");
+    assert_eq!(rt; code_of(&rt, b"+ab", &[1, 5]), Some(15), "another operator");
+    assert_eq!(rt; code_of(&rt, b"+ab", &[1, 3]), Some(15), "two terms for X");
     assert_eq!(rt;
         code_of(&rt, b"++aba", &[5, 3, 0, 1]),
-        15,
+        Some(15),
         "the second place of X"
     );
     leads(&rt, b"+b+aa", &[5, 3, 0, 2], b"+ba")
