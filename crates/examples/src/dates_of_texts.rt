@@ -1,4 +1,5 @@
 // Evaluations, run: dates of three kinds, and each refusal.
+use crate::sums::long_sum;
 use algebra::Refusal;
 use dates::{Cause, Date, ShiftTick, Tick};
 use std::test::Fail;
@@ -72,16 +73,10 @@ fn each_refusal(rt: HostRuntime) {
     assert_eq!(rt; small.err(), Some(53));
 }
 
-// 255 times + and then only a: the first 511 bytes are one whole term.
-fn long_sum() -> [u8; 513] {
-    let mut bytes = [b'+'; 513];
-    bytes[255..].fill(b'a');
-    bytes
-}
-
 #[test]
 fn the_longest_text(rt: HostRuntime) {
-    let text = long_sum();
+    // The first 511 bytes are one whole term.
+    let text: [u8; 513] = long_sum(255);
     assert!(rt; is_text(&text[0..511]));
     assert_eq!(rt; ticks(&text[0..511], 9, 0), Ok(9));
     assert!(rt; !is_text(&text[0..512]));

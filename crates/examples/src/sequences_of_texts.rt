@@ -1,4 +1,5 @@
 // Closings, dates and lines of tables, run: what is granted, and each refusal.
+use crate::sums::long_sum;
 use algebra::Refusal;
 use dates::{Date, Tick};
 use sequences::table::Table;
@@ -44,16 +45,10 @@ fn a_line_in_order(rt: HostRuntime) {
     assert!(rt; prints_as(&table, 0, b"c x a<b x<b a=c\n"));
 }
 
-// 64 times + and then only a: the first 127 bytes from place 1 are a sum of 64 sequences, all 129 one of 65.
-fn long_sum() -> [u8; 129] {
-    let mut bytes = [b'+'; 129];
-    bytes[64..].fill(b'a');
-    bytes
-}
-
 #[test]
 fn at_most_64_sequences(rt: HostRuntime) {
-    let text = long_sum();
+    // The 127 bytes from place 1 are a sum of 64 sequences, all 129 one of 65.
+    let text: [u8; 129] = long_sum(64);
     assert_eq!(rt; closed(&text[1..128]), Ok(64));
     assert_eq!(rt; closed(&text[..129]), Err(23));
 }

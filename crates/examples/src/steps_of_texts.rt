@@ -1,4 +1,5 @@
 // Steps, run: each rule both ways, the longest texts, each refusal, and files of steps.
+use crate::sums::long_sum;
 use algebra::Refusal;
 use std::alloc::{AllocError, Global};
 use std::process::Abort;
@@ -252,16 +253,10 @@ fn each_rule_both_ways(rt: HostRuntime) -> Result<(), Fail> {
     Ok(())
 }
 
-// 128 times + and then only a: one whole term of 257 bytes, and one of 255 without its ends.
-fn long_sum() -> [u8; 257] {
-    let mut bytes = [b'a'; 257];
-    bytes[..128].fill(b'+');
-    bytes
-}
-
 #[test]
 fn the_longest_text(rt: HostRuntime) -> Result<(), Fail> {
-    let sum = long_sum();
+    // One whole term of 257 bytes, and one of 255 without its ends.
+    let sum: [u8; 257] = long_sum(128);
     let short = &sum[1..256];
     let text = text_of(&rt, short);
     let made = apply_step(&text, 1, &[3, 3, 1])?;
