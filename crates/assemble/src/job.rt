@@ -16,24 +16,30 @@ use notation::numbers::read_byte;
 use notation::records::read_record;
 use notation::step_words::read_step;
 use std::alloc::{AllocFailed, Global};
-use std::error::Error;
-use std::fmt;
 use std::marker::Model;
 use steps::record::StepRecord;
+use thiserror::Error;
 use trees::record::Record;
 
 // The most records that one byte can count.
 const MOST: usize = 255;
 
 // Why a line cannot be taken.
-#[derive(Clone, Copy, Debug, PartialEq, Eq, Hash)]
+#[derive(Clone, Copy, Debug, PartialEq, Eq, Hash, Error)]
 pub enum LineFault {
+    #[error("it is no line of events, no record and no step")]
     Unread,
+    #[error("a line of events has to come first")]
     NoEvents,
+    #[error("the events stand already")]
     SecondEvents,
+    #[error("a record cannot come after a step")]
     LateRecord,
+    #[error("there are 255 records already")]
     TooMany,
+    #[error("a step has a rule from 1 to 42, and terms of at most 255 bytes over the events")]
     NoForm,
+    #[error("there is no memory left")]
     Memory,
 }
 
@@ -55,23 +61,6 @@ impl<T: Drop> From<AllocFailed<T>> for LineFault {
         Self::Memory
     }
 }
-
-impl fmt::Display for LineFault {
-    fn fmt<W: fmt::Write>(&self, f: &mut fmt::Formatter<W>) -> fmt::Result {
-        f.write_str(match self {
-            LineFault::Unread => "it is no line of events, no record and no step",
-            LineFault::NoEvents => "a line of events has to come first",
-            LineFault::SecondEvents => "the events stand already",
-            LineFault::LateRecord => "a record cannot come after a step",
-            LineFault::TooMany => "there are 255 records already",
-            LineFault::NoForm =>
-                "a step has a rule from 1 to 42, and terms of at most 255 bytes over the events",
-            LineFault::Memory => "there is no memory left",
-        })
-    }
-}
-
-impl Error for LineFault {}
 
 // The events, where their line was read, the records in order, and the file of the steps.
 #[derive(Drop)]
