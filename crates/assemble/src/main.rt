@@ -1,38 +1,48 @@
 // Reads a tree and steps written by hand, and writes their bytes.
 #![tactic(auto)]
 
-use job::Job;
+use job::{Job, LineFault};
 use notation::words::split_words;
-use std::alloc::Global;
 use std::rt::Files;
 use std::{env, fs, io};
+use thiserror::Error;
 
 mod job;
 
 // The file that is read where no other is named.
 const TEXT: &str = "job.txt";
 
-// The line before a comment.
-fn before_comment(line: &str) -> &str {
-    line.split_once('#').map(|(text, _)| text).unwrap_or(line)
+// The number of a line that cannot be taken, and why it cannot.
+#[derive(Clone, Copy, Debug, Error)]
+#[error("line {line}: {fault}")]
+struct BadLine {
+    line: usize,
+    fault: LineFault,
 }
 
-// Reads the lines of a job one after another. The first that cannot be read is told with its number.
-fn read_job(rt: &impl Print, alloc: Global, text: &str) -> io::Result<Option<Job>> {
-    let mut job = Job::new(alloc);
-    for (number, line) in (1usize..).zip(text.lines()) {
-        let words = split_words(alloc, before_comment(line))?;
-        if let Err(fault) = job.add_line(alloc, words.as_slice()) {
-            println!(rt; "line {number}: {fault}")?;
-            return Ok(None);
-        }
+// The line before a comment.
+fn before_comment(line: &str) -> &str {
+    line.split_once('#').map_or(line, |(text, _)| text)
+}
+
+// What one line makes of a job.
+fn read_line(rt: &impl AllocGlobal, job: &mut Job, line: &str) -> Result<(), LineFault> {
+    let words = split_words(rt.alloc(), before_comment(line)).map_err(|_| LineFault::Memory)?;
+    job.add_line(rt.alloc(), words.as_slice())
+}
+
+// Reads the lines of a job one after another, up to the first that cannot be taken.
+fn read_job(rt: &impl AllocGlobal, text: &str) -> Result<Job, BadLine> {
+    let mut job = Job::new(rt.alloc());
+    for (line, words) in (1usize..).zip(text.lines()) {
+        read_line(rt, &mut job, words).map_err(|fault| BadLine { line, fault })?;
     }
-    Ok(Some(job))
+    Ok(job)
 }
 
 // Writes the two files of a job.
-fn write_job(rt: &(impl Files + Print), alloc: Global, job: &Job) -> io::Result<()> {
-    let tree = match job.tree_bytes(alloc) {
+fn write_job(rt: &(impl Files + Print + AllocGlobal), job: &Job) -> io::Result<()> {
+    let tree = match job.tree_bytes(rt.alloc()) {
         Ok(tree) => tree,
         Err(fault) => return println!(rt; "{fault}"),
     };
@@ -45,12 +55,10 @@ fn write_job(rt: &(impl Files + Print), alloc: Global, job: &Job) -> io::Result<
 }
 
 fn main(rt: HostRuntime) -> io::Result<()> {
-    let text = match env::args(&rt)?.nth(1) {
-        Some(name) => fs::read_to_string(&rt, name.as_str())?,
-        None => fs::read_to_string(&rt, TEXT)?,
-    };
-    match read_job(&rt, rt.alloc(), text.as_str())? {
-        Some(job) => write_job(&rt, rt.alloc(), &job),
-        None => Ok(()),
+    let name = env::args(&rt)?.nth(1);
+    let text = fs::read_to_string(&rt, name.as_ref().map_or(TEXT, |name| name.as_str()))?;
+    match read_job(&rt, text.as_str()) {
+        Ok(job) => write_job(&rt, &job),
+        Err(fault) => println!(&rt; "{fault}"),
     }
 }
