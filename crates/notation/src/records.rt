@@ -10,7 +10,7 @@ use crate::inputs::{input_word, read_input};
 use std::alloc::{AllocError, Global};
 use trees::record::{Gate, Kind, Record};
 
-// The kind that a word is.
+// The kind that a word is. The words of kinds are those of this notation, so `trees` knows none.
 fn read_kind(word: &str) -> Option<Kind>
     ensures { MatchOption result ((k : RecordKind) → word.now ≢ kind_word k) (λ k. word.now ≡ kind_word k) }
 {

@@ -129,8 +129,7 @@ pub fn step_line(heap: Global, said: &StepRecord<'_>) -> Result<Vec<u8>, AllocEr
     ensures { IfOk result (λ l. l.items ≡ joined (step_words (request_of said.now))) }
 {
     let rule = said.rule;
-    let number = format!(in heap; "{rule}")?;
-    let mut line = Vec::from_slice(heap, number.as_bytes())?;
+    let mut line = format!(in heap; "{rule}")?.into_bytes();
     add_way(&mut line, said.way)?;
     add_place(heap, &mut line, said.place)?;
     let Binding { x, y, z } = said.supplied;

@@ -4,7 +4,7 @@ use Rattle.notation.proofs.inputs.read_input.Goals as goal
 
 pub returns-in-len1 : goal.returns-in-len1
 returns-in-len1 c =
-    let n = named_letter c.args.word.now (search rules) c.read_letter.result c.read_letter.ensures in
+    let n = named_letter c.args.word.now (search rules) c.event_of.result c.event_of.ensures in
     record { named = n; one = one_name _; back = named_back _ _ n }
 
 pub returns-in-101 : goal.returns-in-101

@@ -1,4 +1,4 @@
-use Rattle.std.proofs.Common.{◌≡◌, ◌∙◌, None, decimal, vec_items, add-one, arith}
+use Rattle.std.proofs.Common.{◌≡◌, ◌∙◌, ap, None, decimal, vec_items, add-one, arith}
 use Rattle.algebra.specs.declared.Variable.TheVariants.{X}
 use Rattle.notation.proofs.Spacing.{one_more, step_made}
 use Rattle.notation.proofs.step_words.step_line.Goals as goal
@@ -8,5 +8,5 @@ returns c =
     let s = c.args.said.now.supplied in
     let n : c.loop-letter.letter-index ≡ 3 = omega arith in
     step_made (decimal c.args.said.now.rule) _ _ s.x s.y s.z _ _ (vec_items c.add_place.new.line) (vec_items c.loop-letter.line)
-    (c.in_ok-line.ensures.items ∙ c.as_bytes.ensures.value ∙ c.in_ok-number.ensures.ok) c.in_ok-add_way.ensures c.in_ok-add_place.ensures
+    (ap vec_items c.into_bytes-line.ensures.value ∙ c.in_ok-format.ensures.ok) c.in_ok-add_way.ensures c.in_ok-add_place.ensures
     (rw n at c.loop-letter.invariant)
