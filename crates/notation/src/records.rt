@@ -1,5 +1,5 @@
 // A tree's records in words: the kind, and the two inputs.
-ghost use Rattle.std.specs.Prelude.{◌≡◌, ◌<◌, List, [], ◌∷◌, map, IfOk, Some, string_bytes, MatchOption, ◌≢◌};
+ghost use Rattle.std.specs.Prelude.{◌≡◌, ◌<◌, map, IfOk, Some, string_bytes, MatchOption, ◌≢◌};
 ghost use Rattle.trees.specs.Records.{first as firstInput, second as secondInput};
 ghost use Rattle.trees.specs.declared.record.Kind.{Kind as RecordKind};
 ghost use Rattle.notation.specs.Records.{OneRecord, RecordWords, kind_word, record_words};
@@ -24,26 +24,19 @@ fn read_kind(word: &str) -> Option<Kind>
     }
 }
 
-// The record of a kind and two inputs in words.
-fn read_three(name: &str, one: &str, two: &str) -> Option<Record>
-    ensures { MatchOption result ((x : TreeRecord) → RecordWords x (name.now ∷ one.now ∷ two.now ∷ []) → ⊥) (λ x. RecordWords x (name.now ∷ one.now ∷ two.now ∷ [])) }
-{
-    let kind = read_kind(name)?;
-    let first = read_input(one.as_bytes())?;
-    let second = read_input(two.as_bytes())?;
-    Some(Record::new(kind, first, second))
-}
-
 // The record that words say: its kind and its two inputs. The words that are written for a record are read back as it.
 pub fn read_record(words: &[&str]) -> Option<Record>
     ensures read { MatchOption result ((x : TreeRecord) → RecordWords x (map (λ x. x.now) words.now) → ⊥) (λ x. RecordWords x (map (λ x. x.now) words.now)) }
     ensures one { OneRecord (map (λ x. x.now) words.now) }
     ensures back { (x : TreeRecord) → firstInput x < 256 → secondInput x < 256 → map (λ x. x.now) words.now ≡ record_words x → result ≡ Some x }
 {
-    match words {
-        [name, one, two] => read_three(name, one, two),
-        _ => None,
-    }
+    let [name, one, two] = words else {
+        return None;
+    };
+    let kind = read_kind(name)?;
+    let first = read_input(one.as_bytes())?;
+    let second = read_input(two.as_bytes())?;
+    Some(Record::new(kind, first, second))
 }
 
 // The word of a kind.

@@ -1,5 +1,5 @@
-use Rattle.std.proofs.Common.{None, rules}
-use Rattle.notation.proofs.Naming.{one_name, named_letter, named_event, named_gate, not_named, empty_named, named_back}
+use Rattle.std.proofs.Common.{rules}
+use Rattle.notation.proofs.Naming.{one_name, named_letter, named_event, named_gate, named_back}
 use Rattle.notation.proofs.inputs.read_input.Goals as goal
 
 pub returns-in-len1 : goal.returns-in-len1

@@ -2,7 +2,7 @@ use Rattle.std.proofs.Common.{ℕ, ◌<◌, map, ap, List, Some, None, subst, ar
 use Rattle.std.proofs.lemmas.List.{length-map}
 use Rattle.notation.specs.Numbers.{Number}
 use Rattle.notation.proofs.Back.{step_back}
-use Rattle.notation.proofs.Stepping.{no_words, no_step, no_rule_lem, no_place, left_over_lem, step_said, one_step}
+use Rattle.notation.proofs.Stepping.{no_rule_lem, no_place, left_over_lem, step_said, one_step}
 use Rattle.notation.proofs.step_words.read_step.Goals as goal
 
 pub returns-in_err-rule : goal.returns-in_err-rule

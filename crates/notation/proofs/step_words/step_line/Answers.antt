@@ -1,6 +1,5 @@
-use Rattle.std.proofs.Common.{◌≡◌, ◌∙◌, ap, None, decimal, vec_items, add-one, arith}
-use Rattle.algebra.specs.declared.Variable.TheVariants.{X}
-use Rattle.notation.proofs.Spacing.{one_more, step_made}
+use Rattle.std.proofs.Common.{◌≡◌, ◌∙◌, ap, decimal, vec_items, arith}
+use Rattle.notation.proofs.Spacing.{step_made}
 use Rattle.notation.proofs.step_words.step_line.Goals as goal
 
 pub returns : goal.returns
