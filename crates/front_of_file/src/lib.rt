@@ -9,16 +9,16 @@ use std::io::{self, Read};
 use std::rt::Files;
 
 // How much of a file is read.
-const MOST: u64 = 60_000;
+const MOST_BYTES: u64 = 60_000;
 
-// The first 60,000 bytes of a file, or all where it has fewer. What `take` lets through it promises only of bytes that are
-// known beforehand, so the bound of the result is that of `truncate`.
+// The first 60,000 bytes of a file, or all where it has fewer. `take` stops the reading there, but promises a bound only
+// where the bytes are known beforehand, and those of a file are not. So the bound of the result comes from `truncate`.
 pub fn read(files: &impl Files, alloc: Global, name: &str) -> io::Result<Vec<u8>>
     ensures { IfOk result (λ bytes. vec_len bytes ≤ 60000) }
 {
     let mut bytes = Vec::new(alloc);
-    File::open(files, name)?.take(MOST).read_to_end(&mut bytes)?;
-    bytes.truncate(MOST as usize);
+    File::open(files, name)?.take(MOST_BYTES).read_to_end(&mut bytes)?;
+    bytes.truncate(MOST_BYTES as usize);
     Ok(bytes)
 }
 
