@@ -5,17 +5,16 @@ use assembly::tree_bytes::{Layout, read_layout};
 use front_of_file::read;
 use notation::records::record_line;
 use notation::step_words::step_line;
-use std::alloc::Global;
 use std::io::{self, Write};
 use steps::record::read_step;
 use steps::records::Records;
 
 // The lines of a tree.
-fn tell_tree(rt: &impl Print, alloc: Global, layout: &Layout) -> io::Result<()> {
+fn tell_tree(rt: &(impl Print + AllocGlobal), layout: &Layout) -> io::Result<()> {
     let events = layout.events;
     println!(rt; "events {events}")?;
     for one in layout.records.as_slice() {
-        let line = record_line(alloc, *one)?;
+        let line = record_line(rt.alloc(), *one)?;
         println!(rt; "{line}")?;
     }
     Ok(())
@@ -23,8 +22,7 @@ fn tell_tree(rt: &impl Print, alloc: Global, layout: &Layout) -> io::Result<()> 
 
 // The line of a step record, or that it is not well-formed.
 fn tell_step(
-    rt: &impl Print,
-    alloc: Global,
+    rt: &(impl Print + AllocGlobal),
     events: u8,
     number: usize,
     bytes: &[u8],
@@ -32,16 +30,16 @@ fn tell_step(
     let Ok(said) = read_step(bytes, events) else {
         return println!(rt; "# step {number} is not well-formed");
     };
-    let mut line = step_line(alloc, &said)?;
+    let mut line = step_line(rt.alloc(), &said)?;
     line.push(b'\n')?;
     io::writer(rt).write_all(line.as_slice())
 }
 
 // The lines of a file of steps.
-fn tell_steps(rt: &impl Print, alloc: Global, events: u8, file: &[u8]) -> io::Result<()> {
+fn tell_steps(rt: &(impl Print + AllocGlobal), events: u8, file: &[u8]) -> io::Result<()> {
     for record in Records::of(file) {
         match record {
-            Ok((number, bytes)) => tell_step(rt, alloc, events, number, bytes)?,
+            Ok((number, bytes)) => tell_step(rt, events, number, bytes)?,
             Err(fault) => {
                 let number = fault.step;
                 println!(rt; "# step {number} is cut off by the end of the file")?;
@@ -59,6 +57,6 @@ fn main(rt: HostRuntime) -> io::Result<()> {
     let Ok(layout) = read_layout(alloc, tree.as_slice()) else {
         return println!(rt; "# tree.bin is not made of records");
     };
-    tell_tree(&rt, alloc, &layout)?;
-    tell_steps(&rt, alloc, layout.events, steps.as_slice())
+    tell_tree(&rt, &layout)?;
+    tell_steps(&rt, layout.events, steps.as_slice())
 }
