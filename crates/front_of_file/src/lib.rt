@@ -17,7 +17,9 @@ pub fn read(files: &impl Files, alloc: Global, name: &str) -> io::Result<Vec<u8>
     ensures { IfOk result (λ bytes. vec_len bytes ≤ 60000) }
 {
     let mut bytes = Vec::new(alloc);
-    File::open(files, name)?.take(MOST_BYTES).read_to_end(&mut bytes)?;
+    File::open(files, name)?
+        .take(MOST_BYTES)
+        .read_to_end(&mut bytes)?;
     bytes.truncate(MOST_BYTES as usize);
     Ok(bytes)
 }
