@@ -22,7 +22,7 @@ use thiserror::Error;
 use trees::record::Record;
 
 // The most records that one byte can count.
-const MOST: usize = 255;
+const MOST_RECORDS: usize = 255;
 
 // Why a line cannot be taken.
 #[derive(Clone, Copy, Debug, PartialEq, Eq, Hash, Error)]
@@ -118,7 +118,7 @@ impl Job {
         if !self.steps.is_empty() {
             return Err(LineFault::LateRecord);
         }
-        if self.records.len() >= MOST {
+        if self.records.len() >= MOST_RECORDS {
             return Err(LineFault::TooMany);
         }
         self.records.push(one)?;
