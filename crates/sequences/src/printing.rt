@@ -94,7 +94,7 @@ impl Line {
         requires { length (spelt self.old (map Letter (sifted 24 (λ v. listed row.now v)))) ≤ 512 }
         ensures { self.new ≡ spelt self.old (map Letter (sifted 24 (λ v. listed row.now v))) }
     {
-        // The test stands in the loop: as a filter it would be a closure over a reference to the letter, in as many lines.
+        // The test stands in the loop: with `filter(..)` it stayed open that the letter is below 24 and that its item fits.
         for v in 0..24 {
             if member(row.letters, v) {
                 self.put(Factor::Letter(v));
