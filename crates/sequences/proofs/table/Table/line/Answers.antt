@@ -1,4 +1,4 @@
-use Rattle.std.proofs.Common.{◌<◌, length, Err, ap, subst, arith, rules}
+use Rattle.std.proofs.Common.{◌<◌, length, Err, subst, rules}
 use Rattle.sequences.specs.Tables.{IsTable}
 use Rattle.sequences.specs.declared.refusals.LineRefusal.TheVariants.{SmallBuffer}
 use Rattle.sequences.proofs.Held.{tells_row}
