@@ -15,9 +15,6 @@ pub record Underway (h : List Known) (file : List ℕ) (n : ℕ) (left : List �
   pub run : Run calls s
   pub on : (r : Answer StepFault) (h' : List Known) → Walked n left calls r h' → Walked 1 file h r h'
 
-pub underway_start : (h : List Known) (file : List ℕ) (s : State) → Run h s → Underway h file 1 file s
-underway_start h file s run = record { calls = h; run = run; on = λ r h' w. w }
-
 module _ (h : List Known) (file : List ℕ) (n : ℕ) (left : List ℕ) (s : State) (u : Underway h file n left s) where
   pub made_cut : (f : StepFault) → f ≡ fault_at n Form → CutOff left → Made h file (Err f) s
   made_cut f is end = record {

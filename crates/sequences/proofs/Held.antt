@@ -1,19 +1,16 @@
 -- What the rows of a text give to the table that holds them.
 -- Assumes nothing.
-use Rattle.std.proofs.Common.{ℕ, ◌<◌, ◌≤◌, List, length, All, sym, ap, subst, arith}
+use Rattle.std.proofs.Common.{ℕ, ◌<◌, List, length, All, sym, ap, subst, arith}
 use Rattle.algebra.specs.Kinds.{Kind, Same}
-use Rattle.algebra.specs.Refusals.{Refused, Granted}
+use Rattle.algebra.specs.Refusals.{Granted}
 use Rattle.algebra.specs.Texts.{text_date}
 use Rattle.sequences.specs.Closing.{CloseAsks, KeepsDates}
-use Rattle.sequences.specs.Codes.{line_code}
 use Rattle.sequences.specs.Dates.{table_date}
 use Rattle.sequences.specs.Rows.{absent}
-use Rattle.sequences.specs.Tables.{Holds, IsTable, LineAsks, TellsRow, row_at}
+use Rattle.sequences.specs.Tables.{Holds, IsTable, TellsRow, row_at}
 use Rattle.sequences.specs.Walks.{Impossible}
 use Rattle.sequences.specs.declared.row.Row.{Row}
 use Rattle.sequences.specs.declared.refusals.CloseRefusal.TheVariants.{TooMany, ImpossibleSequence}
-use Rattle.sequences.specs.declared.refusals.LineRefusal.{LineRefusal}
-use Rattle.sequences.specs.declared.refusals.LineRefusal.TheVariants.{SmallBuffer, NoRow}
 use Rattle.sequences.proofs.Closings.{Proper, all_rows, keeps_date, map_length, text_proper}
 use Rattle.sequences.proofs.Tell.{lines_tell}
 use Rattle.sequences.proofs.Ticks.{happens_by_ticks}
@@ -46,12 +43,5 @@ pub held_dates : (bs : List ℕ) (rs : List Row) → Holds bs rs → KeepsDates 
 held_dates bs rs h K d = held_date K d bs rs h
 
 -- lines
-pub no_row : (rs : List Row) (row room : ℕ) → 512 ≤ room → (row < length rs → ⊥) → Refused line_code (LineAsks rs row room) NoRow
-no_row rs row room r h = record { fails = h; lower = lower }
-  where
-    lower : (f : LineRefusal) → line_code f < 55 → LineAsks rs row room f
-    lower SmallBuffer l = r
-    lower NoRow l = absurd (omega arith)
-
 pub tells_row : (rs : List Row) (row : ℕ) → IsTable rs → row < length rs → TellsRow rs row
 tells_row rs row t h us k u l e = lines_tell (row_at us k) (row_at rs row) (u.sound k absent l) (t.sound row absent h) e

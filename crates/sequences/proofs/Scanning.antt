@@ -75,10 +75,6 @@ step_good (Second sign v) p s b h =
 step_good End p s b h = nothing_good p s
 step_good Nothing p s b h = nothing_good p s
 
--- a factor that a good step has fits
-pub fits_some : (m : Step) (f : Factor) (p s : ℕ) → Good p s m → m.factor ≡ Some f → Fitting f
-fits_some m f p s g e = subst FitsIf e g.fits
-
 run_append : (st : State) (bs : List ℕ) (b : ℕ) → run st (bs ++ (b ∷ [])) ≡ step (run st bs) b
 run_append st [] b = refl
 run_append st (c ∷ bs) b = run_append (step st c) bs b

@@ -24,9 +24,6 @@ head_same a b s t e = cc
 tail_same : (a b : ℕ) (s t : List ℕ) → a ∷ s ≡ b ∷ t → s ≡ t
 tail_same a b s t e = cc
 
-nil_cons : (a : ℕ) (s : List ℕ) → ◌≡◌ {A = List ℕ} [] (a ∷ s) → ⊥
-nil_cons a s e = let z : ◌≡◌ {A = ℕ} 0 1 = cc in omega arith
-
 -- a space or the end comes first, and no sign of a pair
 pub record Begins (s : List ℕ) : Type 0 where
   pub first : ℕ

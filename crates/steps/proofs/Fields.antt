@@ -20,9 +20,6 @@ bit_is X t = refl
 bit_is Y t = refl
 bit_is Z t = refl
 
-same_bit : (v : Variable) (s t : List ℕ) → bit_of (the_term v s) ≡ bit_of (the_term v t)
-same_bit v s t = omega (arith, bit_is v s, bit_is v t)
-
 term_bit : (v : Variable) (t : List ℕ) → 3 ≤ bit_of (the_term v t)
 term_bit v t = omega (arith, bit_is v t, high v)
 

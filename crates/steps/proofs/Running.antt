@@ -1,11 +1,11 @@
 -- The steps of a file, one after the other.
 -- Assumes nothing.
-use Rattle.std.proofs.Common.{◌≡◌, ℕ, ◌+◌, ◌*◌, ◌<◌, List, [], ◌∷◌, ◌++◌, length, take, drop, IfOk, Some, Ok, Err, Option, Result, sym, refl, ap, ◌∙◌, subst, arith, Bor}
+use Rattle.std.proofs.Common.{◌≡◌, ℕ, ◌+◌, ◌*◌, ◌<◌, List, [], ◌∷◌, ◌++◌, length, take, drop, IfOk, Ok, Err, Result, sym, refl, ap, ◌∙◌, subst, arith}
 use Rattle.std.proofs.lemmas.List.{take_at, drop_at, length-append, take-append-drop}
 use Rattle.std.specs.List.{IsSplitAt}
 use Rattle.algebra.specs.Steps.{Derived}
 use Rattle.algebra.specs.Texts.{Whole}
-use Rattle.steps.specs.Files.{Begins, CutOff, NextRecord, OneRecord, OneRun, Runs, ended, went, refused, cut, fault_at, answer_at}
+use Rattle.steps.specs.Files.{Begins, CutOff, OneRecord, OneRun, Runs, ended, went, refused, cut, fault_at, answer_at}
 use Rattle.steps.specs.Stepping.{StepAnswer}
 use Rattle.steps.specs.declared.file.StepFault.{StepFault}
 use Rattle.steps.specs.declared.refusal.StepRefusal.{StepRefusal}
@@ -112,10 +112,6 @@ module _ (events : ℕ) (first : List ℕ) (file : List ℕ) (n : ℕ) (present 
       (subst (λ (x : Result (List ℕ) StepRefusal). StepAnswer present events bs x) e answer)
       (subst (λ (x : Result (List ℕ) StepRefusal). IfOk x (λ y. Whole events present → Whole events y)) e whole)
       (subst (λ (x : Result (List ℕ) StepRefusal). IfOk x (λ y. (cs : List ℕ) → Derived cs present → Derived cs y)) e derived)
-
--- the record that stands first
-pub next_some : (n : ℕ) (left : List ℕ) (a : Result (Option (Bor (List ℕ) × Bor (List ℕ))) StepRefusal) (o : Option (Bor (List ℕ) × Bor (List ℕ))) (p : Bor (List ℕ) × Bor (List ℕ)) → NextRecord left a → answer_at n a ≡ Ok o → o ≡ Some p → Begins left p.0.now p.1.now
-next_some n left a o p next h some = subst (NextRecord left) (answer_ok n a o h ∙ ap Ok some) next
 
 pub shorter : (file bs rest : List ℕ) → Begins file bs rest → length rest < length file
 shorter file bs rest b = omega (arith, ap length b.bytes, length-append bs rest)

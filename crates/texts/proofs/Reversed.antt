@@ -1,14 +1,11 @@
 -- The bytes of a text, read from its end.
 -- Assumes nothing.
-use Rattle.std.proofs.Common.{◌≡◌, ℕ, suc, ◌+◌, ◌-◌, ◌<◌, List, [], ◌∷◌, length, get_or, drop, reverse, sym, ap, ◌∙◌, arith, drop-cons}
-use Rattle.std.proofs.lemmas.List.{get_or-reverse, length-reverse, drop_all}
+use Rattle.std.proofs.Common.{◌≡◌, ℕ, suc, ◌+◌, ◌-◌, ◌<◌, List, ◌∷◌, length, get_or, drop, reverse, sym, ap, ◌∙◌, arith, drop-cons}
+use Rattle.std.proofs.lemmas.List.{get_or-reverse, length-reverse}
 
 -- the last n bytes
 abbrev pub last : ℕ → List ℕ → List ℕ
 last n bs = drop (length bs - n) bs
-
-pub last_none : (bs : List ℕ) → last 0 bs ≡ []
-last_none bs = drop_all (length bs - 0) bs (omega arith)
 
 pub last_all : (bs : List ℕ) (n : ℕ) → n ≡ length bs → last n bs ≡ bs
 last_all bs n h = let none : length bs - n ≡ 0 = omega arith in ap (λ (k : ℕ). drop k bs) none

@@ -125,9 +125,6 @@ after_small Unknown k n i h e = absurd (cc)
 pub stop_end : (k₀ : ℕ) (bs₀ text : List ℕ) (k i : ℕ) → 0 < k → length text ≤ i → Alike k₀ bs₀ k (drop i text) → (rest : List ℕ) → Row k₀ bs₀ rest → ⊥
 stop_end k₀ bs₀ text k i some past inv rest x = end_none k rest some (subst (λ (z : List ℕ). Row k z rest) (drop_all i text past) ((inv rest).0 x))
 
-pub alike_start : (k : ℕ) (bs : List ℕ) → Alike k bs k bs
-alike_start k bs rest = (λ x. x, λ x. x)
-
 -- one term is a row of one
 pub one : (t : Term ℕ) (bs rest : List ℕ) → bs ≡ text_of t ++ rest → Row 1 bs rest
 one t bs rest e = (t ∷ [], refl, e ∙ ap (λ (z : List ℕ). z ++ rest) (sym (append-nil (text_of t))))
