@@ -3,6 +3,7 @@
 
 use job::{Job, LineFault};
 use notation::words::split_words;
+use std::alloc::AllocError;
 use std::rt::Files;
 use std::{env, fs, io};
 use thiserror::Error;
@@ -25,19 +26,16 @@ fn before_comment(line: &str) -> &str {
     line.split_once('#').map_or(line, |(text, _)| text)
 }
 
-// What one line makes of a job.
-fn read_line(rt: &impl AllocGlobal, job: &mut Job, line: &str) -> Result<(), LineFault> {
-    let words = split_words(rt.alloc(), before_comment(line)).map_err(|_| LineFault::Memory)?;
-    job.add_line(rt.alloc(), words.as_slice())
-}
-
 // Reads the lines of a job one after another, up to the first that cannot be taken.
-fn read_job(rt: &impl AllocGlobal, text: &str) -> Result<Job, BadLine> {
+fn read_job(rt: &impl AllocGlobal, text: &str) -> Result<Result<Job, BadLine>, AllocError> {
     let mut job = Job::new(rt.alloc());
     for (line, words) in (1usize..).zip(text.lines()) {
-        read_line(rt, &mut job, words).map_err(|fault| BadLine { line, fault })?;
+        let words = split_words(rt.alloc(), before_comment(words))?;
+        if let Err(fault) = job.add_line(rt.alloc(), words.as_slice()) {
+            return Ok(Err(BadLine { line, fault }));
+        }
     }
-    Ok(job)
+    Ok(Ok(job))
 }
 
 // Writes the two files of a job.
@@ -57,7 +55,7 @@ fn write_job(rt: &(impl Files + Print + AllocGlobal), job: &Job) -> io::Result<(
 fn main(rt: HostRuntime) -> io::Result<()> {
     let name = env::args(&rt)?.nth(1);
     let text = fs::read_to_string(&rt, name.as_ref().map_or(TEXT, |name| name.as_str()))?;
-    match read_job(&rt, text.as_str()) {
+    match read_job(&rt, text.as_str())? {
         Ok(job) => write_job(&rt, &job),
         Err(fault) => println!(&rt; "{fault}"),
     }
