@@ -9,3 +9,4 @@ pub mod Ranks
 pub mod Rules
 pub mod Steps
 pub mod Links
+pub mod Conversions

@@ -10,8 +10,14 @@ ghost use Rattle.algebra.specs.Rules.{SheetStands};
 ghost use Rattle.algebra.specs.Steps.{DerivedKeeps, ReachedKeeps, ReplacingKeeps, SheetKeeps, StepsDerive};
 ghost use Rattle.algebra.specs.Texts.{EveryPlace, OneReading, ReadsTexts};
 
+mod conversions;
+mod refusal;
+
+pub use conversions::{NoVariable, NoWay, event_of};
+pub use refusal::Refusal;
+
 // The operators of a term.
-#[derive(Clone, Copy)]
+#[derive(Clone, Copy, Debug, PartialEq, Eq)]
 pub enum Operator {
     Or,
     And,
@@ -21,7 +27,7 @@ pub enum Operator {
 }
 
 // What one byte of a text is; a letter is known by its value of type V.
-#[derive(Clone, Copy)]
+#[derive(Clone, Copy, Debug, PartialEq, Eq)]
 pub enum Token<V> {
     Letter(V),
     Never,
@@ -30,7 +36,7 @@ pub enum Token<V> {
 }
 
 // The letters of a rule, which stand for any terms.
-#[derive(Clone, Copy)]
+#[derive(Clone, Copy, Debug, PartialEq, Eq)]
 pub enum Variable {
     X,
     Y,
@@ -38,7 +44,7 @@ pub enum Variable {
 }
 
 // The way of a step: from the left side of a rule to the right one, or back.
-#[derive(Clone, Copy)]
+#[derive(Clone, Copy, Debug, PartialEq, Eq)]
 pub enum Way {
     Forward,
     Backward,

@@ -3,54 +3,46 @@
 
 use job::{Job, LineFault};
 use notation::words::split_words;
+use std::alloc::AllocError;
+use std::rt::Files;
 use std::{env, fs, io};
+use thiserror::Error;
 
 mod job;
 
 // The file that is read where no other is named.
 const TEXT: &str = "job.txt";
 
-// What went wrong on a line, in words.
-fn why(fault: LineFault) -> &'static str {
-    match fault {
-        LineFault::Unread => "it is no line of events, no record and no step",
-        LineFault::NoEvents => "a line of events has to come first",
-        LineFault::SecondEvents => "the events stand already",
-        LineFault::LateRecord => "a record cannot come after a step",
-        LineFault::TooMany => "there are 255 records already",
-        LineFault::NoForm =>
-            "a step has a rule from 1 to 42, and terms of at most 255 bytes over the events",
-        LineFault::Memory => "there is no memory left",
-    }
+// The number of a line that cannot be taken, and why it cannot.
+#[derive(Clone, Copy, Debug, Error)]
+#[error("line {line}: {fault}")]
+struct BadLine {
+    line: usize,
+    fault: LineFault,
 }
 
 // The line before a comment.
 fn before_comment(line: &str) -> &str {
-    match line.split_once('#') {
-        Some((text, _)) => text,
-        None => line,
-    }
+    line.split_once('#').map_or(line, |(text, _)| text)
 }
 
-// Reads the lines of a job one after another. The first that cannot be read is told with its number.
-fn read_job(rt: &HostRuntime, text: &str) -> io::Result<Option<Job>> {
+// Reads the lines of a job one after another, up to the first that cannot be taken.
+fn read_job(rt: &impl AllocGlobal, text: &str) -> Result<Result<Job, BadLine>, AllocError> {
     let mut job = Job::new(rt.alloc());
-    for (index, line) in text.lines().enumerate() {
-        let words = split_words(rt.alloc(), before_comment(line))?;
+    for (line, words) in (1usize..).zip(text.lines()) {
+        let words = split_words(rt.alloc(), before_comment(words))?;
         if let Err(fault) = job.add_line(rt.alloc(), words.as_slice()) {
-            let number = index.saturating_add(1);
-            let reason = why(fault);
-            println!(rt; "line {number}: {reason}")?;
-            return Ok(None);
+            return Ok(Err(BadLine { line, fault }));
         }
     }
-    Ok(Some(job))
+    Ok(Ok(job))
 }
 
 // Writes the two files of a job.
-fn write_job(rt: &HostRuntime, job: &Job) -> io::Result<()> {
-    let Ok(tree) = job.tree_bytes(rt.alloc()) else {
-        return println!(rt; "there is no memory left");
+fn write_job(rt: &(impl Files + Print + AllocGlobal), job: &Job) -> io::Result<()> {
+    let tree = match job.tree_bytes(rt.alloc()) {
+        Ok(tree) => tree,
+        Err(fault) => return println!(rt; "{fault}"),
     };
     fs::write(rt, "tree.bin", tree.as_slice())?;
     fs::write(rt, "steps.bin", job.step_bytes())?;
@@ -61,14 +53,10 @@ fn write_job(rt: &HostRuntime, job: &Job) -> io::Result<()> {
 }
 
 fn main(rt: HostRuntime) -> io::Result<()> {
-    let mut args = env::args(&rt)?;
-    let _ = args.next();
-    let text = match args.next() {
-        Some(name) => fs::read_to_string(&rt, name.as_str())?,
-        None => fs::read_to_string(&rt, TEXT)?,
-    };
+    let name = env::args(&rt)?.nth(1);
+    let text = fs::read_to_string(&rt, name.as_ref().map_or(TEXT, |name| name.as_str()))?;
     match read_job(&rt, text.as_str())? {
-        Some(job) => write_job(&rt, &job),
-        None => Ok(()),
+        Ok(job) => write_job(&rt, &job),
+        Err(fault) => println!(&rt; "{fault}"),
     }
 }

@@ -1,6 +1,6 @@
 -- Records written one after another, and read back.
 -- Assumes nothing.
-use Rattle.std.proofs.Common.{◌≡◌, ℕ, ◌+◌, ◌-◌, ◌<◌, ◌≤◌, List, [], ◌∷◌, ◌++◌, reverse, length, get_or, take, drop, sym, refl, ap, ◌∙◌, subst, ⊎_elim, append_assoc, append-nil, arith}
+use Rattle.std.proofs.Common.{◌≡◌, ℕ, ◌+◌, ◌-◌, ◌<◌, List, [], ◌∷◌, ◌++◌, reverse, length, get_or, take, drop, sym, refl, ap, ◌∙◌, subst, ⊎_elim, append_assoc, append-nil, arith}
 use Rattle.std.proofs.lemmas.List.{take_more, take_all, take_rest, reverse-append, reverse-reverse, length-reverse}
 use Rattle.std.proofs.lemmas.Bool.{cases_order}
 use Rattle.trees.specs.declared.record.Record.{Record}
@@ -105,9 +105,6 @@ heads (E ∷ n ∷ bs) rs h s l =
       bytes = λ k. E ∷ sym l.many k ∷ bs;
       records = record { many = refl; spelt = subst (Spelt (reverse rs)) body l.spelt };
     }
-
-pub no_heads : (bs : List ℕ) → length bs ≤ 1 → (events : ℕ) (rs : List Record) → Lays bs events rs → ⊥
-no_heads bs h events rs l = omega (arith, ap length l.bytes)
 
 pub no_records : (bs : List ℕ) → 1 < length bs → ((rs : List Record) → RecordsLie rs (get_or bs 1 0) (take (length bs - 2) (drop 2 bs)) → ⊥) → (events : ℕ) (rs : List Record) → Lays bs events rs → ⊥
 no_records [] h n events rs l = omega arith

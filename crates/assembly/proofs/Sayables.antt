@@ -1,30 +1,39 @@
 -- What can be said by a step record, and that nothing else can.
 -- Assumes nothing.
-use Rattle.std.proofs.Common.{◌≡◌, ℕ, ◌<◌, ◌≤◌, Bool, true, false, ◌&&◌, List, [], ◌∷◌, ◌++◌, length, Some, None, Decides, Option, sym, ap, ◌∙◌, subst, arith}
-use Rattle.std.proofs.lemmas.Bool.{and_parts, and_from}
+use Rattle.std.proofs.Common.{ℕ, zero, suc, ◌<◌, ◌≤◌, Bool, true, false, List, [], ◌∷◌, ◌++◌, length, All, Some, None, Decides, Option, sym, ap, subst, arith}
 use Rattle.std.proofs.lemmas.List.Elements.{All-head, All-tail}
 use Rattle.algebra.specs.Terms.{Term, leaf, never, node}
 use Rattle.algebra.specs.Texts.{text_of}
 use Rattle.algebra.specs.declared.Variable.{Variable}
 use Rattle.algebra.specs.declared.Variable.TheVariants.{X, Y, Z}
 use Rattle.steps.specs.Records.{Request, Field, the_rule, the_way, the_place, the_term, Written, put, Next, Fields, Says, blank, bits, bit_stands, supplied_for}
+use Rattle.steps.specs.Readings.{bytes_of, request_of}
+use Rattle.steps.specs.declared.record.StepRecord.{StepRecord}
 use Rattle.assembly.specs.Writing.{Fits, Each, Sized, WritableTerm, Sayable, Bytes}
 
-module _ (events : ℕ) (q : Request) where
-  pub decides_sayable : (r a b c d : Bool) → r ≡ (a && (b && (c && d))) → Decides a (((1 ≤ q.rule) × (q.rule ≤ 42)) × (q.place < 65536)) → Decides b (WritableTerm events q.x) → Decides c (WritableTerm events q.y) → Decides d (WritableTerm events q.z) → Decides r (Sayable events q)
-  decides_sayable r a b c d e f g h k = (
-    (λ t.
-        let p = and_parts a _ (sym e ∙ t) in
-        let o = and_parts b _ p.1 in
-        let n = and_parts c _ o.1 in
-        let s = f.0 p.0 in
-        record {
-          number = s.0;
-          place = s.1;
-          terms = λ v. elim v as (λ u. WritableTerm events (supplied_for q u)) [ X ↦ g.0 o.0 | Y ↦ h.0 n.0 | Z ↦ k.0 n.1 ];
-        }),
-    (λ s. e ∙ and_from a _ (f.1 (s.number, s.place)) (and_from b _ (g.1 (s.terms X)) (and_from c _ (h.1 (s.terms Y)) (k.1 (s.terms Z))))),
-  )
+-- what holds of each of three
+three : {A : Type 0} (P : A → Type 0) (x y z : A) → P x → P y → P z → All P (x ∷ (y ∷ (z ∷ [])))
+three P x y z p q r zero d h = p
+three P x y z p q r (suc zero) d h = q
+three P x y z p q r (suc (suc zero)) d h = r
+three P x y z p q r (suc (suc (suc k))) d h = absurd (omega arith)
+
+-- a rule of the sheet and a place can be said where the terms can be written
+pub decides_sayable : (events : ℕ) (s : StepRecord) (b : Bool) → (1 ≤ s.rule) × (s.rule ≤ 42) → s.place < 65536 → Decides b (All (λ term. WritableTerm events (bytes_of term)) (s.supplied.x ∷ (s.supplied.y ∷ (s.supplied.z ∷ [])))) → Decides b (Sayable events (request_of s))
+decides_sayable events s b n p d = (
+  (λ t.
+      let all = d.0 t in
+      record {
+        number = n;
+        place = p;
+        terms = λ v. elim v as (λ u. WritableTerm events (supplied_for (request_of s) u)) [
+          | X ↦ all 0 None (omega arith)
+          | Y ↦ all 1 None (omega arith)
+          | Z ↦ all 2 None (omega arith)
+        ];
+      }),
+  λ w. d.1 (three (λ term. WritableTerm events (bytes_of term)) s.supplied.x s.supplied.y s.supplied.z (w.terms X) (w.terms Y) (w.terms Z)),
+)
 
 -- a whole term has a byte
 some_bytes : (t : Term ℕ) → 1 ≤ length (text_of t)

@@ -1,13 +1,17 @@
 -- Fields written one after another are a step record.
 -- Assumes nothing.
-use Rattle.std.proofs.Common.{◌≡◌, ℕ, ◌<◌, ◌≤◌, Bool, true, false, ◌&&◌, eqb, ltb, List, [], ◌∷◌, ◌++◌, length, is_some, Some, None, Option, sym, refl, ap, ◌∙◌, subst, append_assoc, append-nil}
+use Rattle.std.proofs.Common.{◌≡◌, ℕ, zero, suc, ◌<◌, ◌≤◌, Bool, true, false, ◌&&◌, eqb, ltb, cond, ◌*◌, ◌+◌, List, [], ◌∷◌, ◌++◌, length, map, take, get_or, arith, is_some, Some, None, Option, sym, refl, ap, ◌∙◌, subst, append_assoc, append-nil}
 use Rattle.std.proofs.lemmas.Bool.{cond_both, eqb-true, ltb-true, and_parts}
 use Rattle.algebra.specs.declared.Variable.{Variable}
 use Rattle.algebra.specs.declared.Variable.TheVariants.{X, Y, Z}
 use Rattle.algebra.specs.declared.Way.{Way}
 use Rattle.algebra.specs.declared.Way.TheVariants.{Forward, Backward}
 use Rattle.steps.specs.Records.{Request, Field, the_rule, the_place, the_term, bit_of, bit_stands, put, Next, Fields, Says, blank, bits}
-use Rattle.assembly.specs.Writing.{Added, AddedIf, Fits, Each, way_field, place_field, term_field, map_of, Sayable}
+use Rattle.steps.specs.Readings.{field_of}
+use Rattle.steps.specs.declared.record.StepField.{StepField}
+use Rattle.std.specs.Option.{option_map}
+use Rattle.std.specs.Int.{from_bool}
+use Rattle.assembly.specs.Writing.{Added, AddedIf, Fits, Each, Sized, way_field, place_field, term_field, fields_of, map_of, map_of_all, Sayable}
 
 -- a term after its length
 pub term_added : (v : Variable) (t old mid new : List ℕ) → 1 ≤ length t → length t ≤ 255 → mid ≡ old ++ (length t ∷ []) → new ≡ mid ++ t → Added (the_term v t) old new
@@ -69,10 +73,14 @@ leads_z n w p x y None = refl
 leads_z n w p x y (Some t) = (refl, refl)
 
 -- the fields of what can be written can be written
-pub fits_place : (p : ℕ) → Fits (the_place p) → Each Fits (place_field p)
+fits_way : (w : Way) → Each Fits (way_field w)
+fits_way Forward = tt
+fits_way Backward = tt
+
+fits_place : (p : ℕ) → Fits (the_place p) → Each Fits (place_field p)
 fits_place p h = cond_both (eqb p 0) None (Some (the_place p)) (Each Fits) (λ _. tt) (λ _. h)
 
-pub fits_term : (v : Variable) (o : Option (List ℕ)) → Each (λ t. Fits (the_term v t)) o → Each Fits (term_field v o)
+fits_term : (v : Variable) (o : Option (List ℕ)) → Each (λ t. Fits (the_term v t)) o → Each Fits (term_field v o)
 fits_term v None h = tt
 fits_term v (Some t) h = h
 
@@ -172,13 +180,59 @@ module _ (events : ℕ) (q : Request) (map : ℕ) where
         terms = λ v. (s.terms v).0;
       }
 
-  -- the same from the fields that are these
-  pub says_fields : (way place x y z : Option Field) → way ≡ way_field q.way → place ≡ place_field q.place → x ≡ term_field X q.x → y ≡ term_field Y q.y → z ≡ term_field Z q.z → (o₁ o₂ o₃ o₄ o₅ o₆ : List ℕ) → o₁ ≡ map ∷ q.rule ∷ [] → AddedIf way o₁ o₂ → AddedIf place o₂ o₃ → AddedIf x o₃ o₄ → AddedIf y o₄ o₅ → AddedIf z o₅ o₆ → map ≡ map_of (is_some way) (is_some place) (is_some x) (is_some y) (is_some z) → Sayable events q → Says events o₆ q
-  says_fields way place x y z e₁ e₂ e₃ e₄ e₅ o₁ o₂ o₃ o₄ o₅ o₆ e a₁ a₂ a₃ a₄ a₅ m s =
-      says_written o₁ o₂ o₃ o₄ o₅ o₆ e
-      (subst (λ (f : Option Field). AddedIf f o₁ o₂) e₁ a₁)
-      (subst (λ (f : Option Field). AddedIf f o₂ o₃) e₂ a₂)
-      (subst (λ (f : Option Field). AddedIf f o₃ o₄) e₃ a₃)
-      (subst (λ (f : Option Field). AddedIf f o₄ o₅) e₄ a₄)
-      (subst (λ (f : Option Field). AddedIf f o₅ o₆) e₅ a₅)
-      (m ∙ (λ i. map_of (is_some (e₁ i)) (is_some (e₂ i)) (is_some (e₃ i)) (is_some (e₄ i)) (is_some (e₅ i)))) s
+-- THE FIELDS ONE AFTER ANOTHER
+
+-- the bytes of those that stand were added in order
+abbrev pub AllAdded : List (Option Field) → List ℕ → List ℕ → Type 0
+AllAdded [] old new = new ≡ old
+AllAdded (o ∷ os) old new = (mid : List ℕ) × AddedIf o old mid × AllAdded os mid new
+
+pub one_more : {A : Type 0} (f : A → Option Field) (xs : List A) (d : A) (i : ℕ) (old mid new : List ℕ) → i < length xs → AllAdded (map f (take i xs)) old mid → AddedIf (f (get_or xs i d)) mid new → AllAdded (map f (take (suc i) xs)) old new
+one_more f [] d i old mid new h all a = absurd (omega arith)
+one_more f (x ∷ xs) d zero old mid new h all a = (new, subst (λ (w : List ℕ). AddedIf (f x) w new) all a, refl)
+one_more f (x ∷ xs) d (suc i) old mid new h (w, b, all) a = (w, b, one_more f xs d i w mid new (omega arith) all a)
+
+-- each of those that stand can be written
+abbrev Fitting : List (Option Field) → Type 0
+Fitting [] = Unit {0}
+Fitting (o ∷ os) = Each Fits o × Fitting os
+
+fitting : (q : Request) → Sized q → Fitting (fields_of q)
+fitting q s = (fits_way q.way, (fits_place q.place s.place, (fits_term X q.x (s.terms X), (fits_term Y q.y (s.terms Y), (fits_term Z q.z (s.terms Z), tt)))))
+
+fits_one : {A : Type 0} (f : A → Option Field) (xs : List A) (d : A) (i : ℕ) → f d ≡ None → Fitting (map f xs) → Each Fits (f (get_or xs i d))
+fits_one f [] d i e h = rw e tt
+fits_one f (x ∷ xs) d zero e h = h.0
+fits_one f (x ∷ xs) d (suc i) e h = fits_one f xs d i e h.1
+
+pub fits_each : (q : Request) → Sized q → (xs : List (Option StepField)) (i : ℕ) → map (option_map field_of) xs ≡ fields_of q → Each Fits (option_map field_of (get_or xs i None))
+fits_each q s xs i e = fits_one (option_map field_of) xs None i refl (subst Fitting (sym e) (fitting q s))
+
+flags : {A B : Type 0} (f : A → B) (xs : List (Option A)) → map is_some xs ≡ map is_some (map (option_map f) xs)
+flags f [] = refl
+flags f (None ∷ xs) = ap (λ (bs : List Bool). false ∷ bs) (flags f xs)
+flags f (Some x ∷ xs) = ap (λ (bs : List Bool). true ∷ bs) (flags f xs)
+
+pub says_all : (events : ℕ) (q : Request) (byte : ℕ) (xs : List (Option StepField)) (new : List ℕ) → map (option_map field_of) xs ≡ fields_of q → byte ≡ map_of_all (map is_some xs) → AllAdded (map (option_map field_of) xs) (byte ∷ q.rule ∷ []) new → Sayable events q → Says events new q
+says_all events q byte xs new e m all s =
+    let (o₂, a₁, (o₃, a₂, (o₄, a₃, (o₅, a₄, (o₆, a₅, last))))) = subst (λ (os : List (Option Field)). AllAdded os (byte ∷ q.rule ∷ []) new) e all in
+    says_written events q byte _ o₂ o₃ o₄ o₅ new refl a₁ a₂ a₃ a₄ (subst (λ (w : List ℕ). AddedIf (term_field Z q.z) o₅ w) (sym last) a₅)
+    (m ∙ ap map_of_all (flags field_of xs ∙ ap (λ (os : List (Option Field)). map is_some os) e)) s
+
+-- THE MAP BYTE FROM NUMBERS
+
+twofold : (n : ℕ) (b : Bool) → n * from_bool b ≡ cond b n 0
+twofold n true = omega arith
+twofold n false = omega arith
+
+pub map_added : (w p x y z : Bool) → 1 + 2 * from_bool w + 4 * from_bool p + 8 * from_bool x + 16 * from_bool y + 32 * from_bool z ≡ map_of w p x y z
+map_added w p x y z = omega (arith, twofold 2 w, twofold 4 p, twofold 8 x, twofold 16 y, twofold 32 z)
+
+pub five : {A : Type 0} (xs : List (Option A)) → length xs ≡ 5 → map_of (is_some (get_or xs 0 None)) (is_some (get_or xs 1 None)) (is_some (get_or xs 2 None)) (is_some (get_or xs 3 None)) (is_some (get_or xs 4 None)) ≡ map_of_all (map is_some xs)
+five [] h = absurd (omega arith)
+five (a ∷ []) h = absurd (omega arith)
+five (a ∷ b ∷ []) h = absurd (omega arith)
+five (a ∷ b ∷ c ∷ []) h = absurd (omega arith)
+five (a ∷ b ∷ c ∷ d ∷ []) h = absurd (omega arith)
+five (a ∷ b ∷ c ∷ d ∷ e ∷ []) h = refl
+five (a ∷ b ∷ c ∷ d ∷ e ∷ f ∷ xs) h = absurd (omega arith)

@@ -1,10 +1,13 @@
 -- What a step record is written from: its fields, and what can be said at all.
 -- Assumes nothing.
-use Rattle.std.specs.Prelude.{◌≡◌, ℕ, ◌+◌, ◌<◌, ◌≤◌, Bool, cond, List, ◌++◌, length, Some, None, All, Option, ◌==◌}
+use Rattle.std.specs.Prelude.{◌≡◌, ℕ, ◌+◌, ◌<◌, ◌≤◌, Bool, cond, List, [], ◌∷◌, ◌++◌, length, Some, None, All, Option, ◌==◌}
 use Rattle.algebra.specs.declared.Variable.{Variable}
+use Rattle.algebra.specs.declared.Variable.TheVariants.{X, Y, Z}
 use Rattle.algebra.specs.declared.Way.{Way}
 use Rattle.algebra.specs.declared.Way.TheVariants.{Forward, Backward}
-use Rattle.steps.specs.Records.{Field, the_rule, the_way, the_place, the_term, Written, WholeTerm, Request, supplied_for}
+use Rattle.steps.specs.Records.{Field, the_rule, the_way, the_place, the_term, Written, WholeTerm, Request, Says, supplied_for}
+use Rattle.assembly.specs.Faults.{WhereNone}
+use Rattle.assembly.specs.declared.fault.BytesFault.{BytesFault}
 
 -- the fields that are written: what is said without a field has none
 abbrev pub way_field : Way → Option Field
@@ -17,6 +20,10 @@ place_field p = cond (p == 0) None (Some (the_place p))
 abbrev pub term_field : Variable → Option (List ℕ) → Option Field
 term_field v None = None
 term_field v (Some t) = Some (the_term v t)
+
+-- the fields beside the rule, in order, where each stands
+abbrev pub fields_of : Request → List (Option Field)
+fields_of q = way_field q.way ∷ place_field q.place ∷ term_field X q.x ∷ term_field Y q.y ∷ term_field Z q.z ∷ []
 
 -- the bytes of the field were added, whatever stands after them
 pub record Added (f : Field) (old new : List ℕ) : Type 0 where
@@ -59,6 +66,15 @@ pub record Sayable (events : ℕ) (q : Request) : Type 0 where
 abbrev pub Bytes : List ℕ → Type 0
 Bytes bs = All (λ b. b < 256) bs
 
+-- where the fault is that there is no form: no bytes are a step record that says this
+abbrev pub NoBytesSay : BytesFault → ℕ → Request → Type 0
+NoBytesSay e events q = WhereNone e ((bs : List ℕ) → Bytes bs → Says events bs q → ⊥)
+
 -- the map byte of a record that has a rule, and of the other fields those that are flagged
 abbrev pub map_of : Bool → Bool → Bool → Bool → Bool → ℕ
 map_of way place x y z = 1 + (cond way 2 0 + (cond place 4 0 + (cond x 8 0 + (cond y 16 0 + cond z 32 0))))
+
+-- the same from the flags of the fields beside the rule, in order
+abbrev pub map_of_all : List Bool → ℕ
+map_of_all (way ∷ place ∷ x ∷ y ∷ z ∷ []) = map_of way place x y z
+map_of_all _ = 1

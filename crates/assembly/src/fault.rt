@@ -1,14 +1,17 @@
 // Why bytes cannot be written or read.
 ghost use Rattle.std.specs.Prelude.{◌≡◌};
-ghost use Rattle.assembly.specs.declared.fault.BytesFault.TheVariants.{Memory};
+ghost use Rattle.assembly.specs.declared.fault.BytesFault.TheVariants.{NoForm, Memory};
 
 use std::alloc::{AllocError, AllocFailed};
+use thiserror::Error;
+use trees::refusal::TreeRefusal;
 
-#[derive(Clone, Copy)]
+#[derive(Clone, Copy, Debug, PartialEq, Eq, Error)]
 pub enum BytesFault {
     // What was to be written has no byte form, or the bytes are no such form.
+    #[error("it has no byte form")]
     NoForm,
-    // There is no memory left.
+    #[error("there is no memory left")]
     Memory,
 }
 
@@ -25,5 +28,14 @@ impl<T: Drop> From<AllocFailed<T>> for BytesFault {
 
     fn from(_error: AllocFailed<T>) -> BytesFault {
         BytesFault::Memory
+    }
+}
+
+// Bytes that are no record of a tree have no form.
+impl From<TreeRefusal> for BytesFault {
+    ghost from_gives = { λ _ r. r ≡ NoForm };
+
+    fn from(_refusal: TreeRefusal) -> BytesFault {
+        Self::NoForm
     }
 }

@@ -1,65 +1,33 @@
 // The bytes of a tree, written from its records, and the records read back.
-ghost use Rattle.std.specs.Prelude.{◌≡◌, ℕ, List, ◌∷◌, IfOk, MatchResult};
-ghost use Rattle.trees.specs.Records.{fields, kind_of};
+ghost use Rattle.std.specs.Prelude.{◌≡◌, ℕ, ◌<◌, List, length, IfErr, IfOk, MatchResult};
 ghost use Rattle.trees.specs.declared.record.Record.{Record as TreeRecord};
+ghost use Rattle.assembly.specs.declared.fault.BytesFault.TheVariants.{NoForm};
 ghost use Rattle.assembly.specs.Faults.{WhereNone};
 ghost use Rattle.assembly.specs.Layouts.{Lays, MeansAsLaid, OneLayout, RecordsLie};
 
 use crate::fault::BytesFault;
 use std::alloc::Global;
-use trees::record::{Gate, Record, read_record};
-
-// The map byte of a record that has all its fields.
-const ALL_FIELDS: u8 = 0b111;
-
-// The kind of an FDEP.
-const FDEP: u8 = 4;
+use trees::record::{Record, read_record};
 
 // How many events a tree has, and its records in order.
-#[derive(Drop)]
+#[derive(Debug, PartialEq, Eq, Drop)]
 pub struct Layout {
     pub events: u8,
     pub records: Vec<Record>,
-}
-
-fn kind_of(gate: Gate) -> u8
-    ensures { result ≡ kind_of gate }
-{
-    match gate {
-        Gate::Or => 0,
-        Gate::And => 1,
-        Gate::Pand => 2,
-        Gate::Before => 3,
-    }
-}
-
-// The bytes of a record, with all its fields.
-fn record_bytes(one: Record) -> [u8; 4]
-    ensures { result ≡ 7 ∷ fields one }
-{
-    match one {
-        Record::Joins {
-            gate,
-            first,
-            second,
-        } => [ALL_FIELDS, kind_of(gate), first, second],
-        Record::Triggers { trigger, dependent } => [ALL_FIELDS, FDEP, trigger, dependent],
-    }
 }
 
 // The bytes of a tree. It has none where there are more records than one byte can count. They are read back as the same
 // records, and mean the same tree as any other bytes of these records.
 pub fn write_tree(heap: Global, events: u8, records: &[Record]) -> Result<Vec<u8>, BytesFault>
     ensures written { MatchResult result (λ v. Lays v.items events records.now) (λ e. WhereNone e ((bs : List ℕ) → Lays bs events records.now → ⊥)) }
+    ensures many { IfErr result (λ e. e ≡ NoForm → 255 < length records.now) }
     ensures back { IfOk result (λ v. OneLayout v.items) }
     ensures meaning { IfOk result (λ v. MeansAsLaid v.items events records.now) }
 {
-    let Ok(count) = u8::try_from(records.len()) else {
-        return Err(BytesFault::NoForm);
-    };
+    let count = u8::try_from(records.len()).map_err(|_| BytesFault::NoForm)?;
     let mut bytes = Vec::from_slice(heap, &[events, count])?;
     for one in records {
-        bytes.extend_from_slice(&record_bytes(*one))?;
+        bytes.extend_from_slice(&one.bytes())?;
     }
     Ok(bytes)
 }
@@ -70,10 +38,9 @@ fn read_records(heap: Global, count: u8, bytes: &[u8]) -> Result<Vec<Record>, By
 {
     let mut records = Vec::new(heap);
     let mut rest = bytes;
-    for k in 0..count {
-        let Ok((one, after)) = read_record(rest) else {
-            return Err(BytesFault::NoForm);
-        };
+    // A loop, since each record begins where the one before it ends, and both steps may fail.
+    for _ in 0..count {
+        let (one, after) = read_record(rest)?;
         records.push(one)?;
         rest = after;
     }

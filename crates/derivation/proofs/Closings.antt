@@ -1,17 +1,16 @@
 -- What a closing makes of a table.
 -- Assumes nothing.
-use Rattle.std.proofs.Common.{◌≡◌, ℕ, ◌<◌, true, false, IfOk, IfErr, Ok, Err, All, ap, arith}
+use Rattle.std.proofs.Common.{◌≡◌, ℕ, ◌<◌, true, false, IfOk, IfErr, Ok, Err, All, List, arith}
 use borrow.Author.Tests.{both_ways}
 use Rattle.algebra.specs.Refusals.{Refused}
 use Rattle.sequences.specs.Closing as texts
 use Rattle.sequences.specs.Closing.{CloseAsks}
 use Rattle.sequences.specs.Codes.{close_code}
 use Rattle.sequences.specs.Dates.{HappensByTicks}
-use Rattle.sequences.specs.Tables.{held, Holds}
+use Rattle.sequences.specs.Tables.{Holds}
 use Rattle.sequences.specs.declared.refusals.CloseRefusal.{CloseRefusal}
 use Rattle.sequences.specs.declared.refusals.CloseRefusal.TheVariants.{NoTree, NoSum, TooMany, ImpossibleSequence}
-use Rattle.sequences.specs.declared.table.Table.{Table}
-use Rattle.sequences.proofs.Held.{front}
+use Rattle.sequences.specs.declared.row.Row.{Row}
 use Rattle.derivation.specs.Model.{State, Answer, ClosingAsks, Closed}
 
 pub no_tree : (s : State) → s.opened ≡ false → Refused close_code (ClosingAsks s) NoTree
@@ -23,7 +22,7 @@ no_tree s h = record { fails = λ o. both_ways s.opened h o; lower = λ f k. abs
     none TooMany k = omega arith
     none ImpossibleSequence k = omega arith
 
-module _ (s : State) (o : s.opened ≡ true) (t t' : Table) where
+module _ (s : State) (o : s.opened ≡ true) (t t' : List Row) where
   asks : (e : CloseRefusal) → CloseAsks s.present e → ClosingAsks s e
   asks NoTree w = o
   asks NoSum w = w
@@ -37,13 +36,10 @@ module _ (s : State) (o : s.opened ≡ true) (t t' : Table) where
   fails ImpossibleSequence f w = f w
 
   -- what closing the present text does, a closing of the bench does
-  pub closed_by : (r : Answer CloseRefusal) → texts.Closed s.present (λ _. Holds s.present t') r → IfErr r (λ _. t' ≡ t) → Closed s (held t) r (held t')
-  closed_by (Ok u) c left = (
-    λ e. asks e (c.0 e),
-    record { sequences = c.1.sequences; closes = c.1.closes; each = front s.present t'.rows t'.len c.0 c.1 },
-  )
-  closed_by (Err e) c left = (record { fails = fails e c.fails; lower = λ f k. asks f (c.lower f k) }, ap held left)
+  pub closed_by : (r : Answer CloseRefusal) → texts.Closed s.present (λ _. Holds s.present t') r → IfErr r (λ _. t' ≡ t) → Closed s t r t'
+  closed_by (Ok u) c left = (λ e. asks e (c.0 e), c.1)
+  closed_by (Err e) c left = (record { fails = fails e c.fails; lower = λ f k. asks f (c.lower f k) }, left)
 
-pub happens_at : (t' : Table) (r : Answer CloseRefusal) → IfOk r (λ _. All HappensByTicks (held t')) → r ≡ Ok tt → All HappensByTicks (held t')
+pub happens_at : (t' : List Row) (r : Answer CloseRefusal) → IfOk r (λ _. All HappensByTicks t') → r ≡ Ok tt → All HappensByTicks t'
 happens_at t' (Ok u) h e = h
 happens_at t' (Err x) h e = let z : ◌≡◌ {A = ℕ} 0 1 = cc in absurd (omega arith)

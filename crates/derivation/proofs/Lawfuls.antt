@@ -11,23 +11,21 @@ use Rattle.algebra.proofs.Refusals.{one_refusal}
 use Rattle.trees.specs.declared.refusal.TreeRefusal.{TreeRefusal}
 use Rattle.sequences.specs.Closing as closing-texts
 use Rattle.sequences.specs.Closing.{CloseAsks, SomeNever}
-use Rattle.sequences.specs.Codes.{close_code}
+use Rattle.sequences.specs.Codes.{close_code, close_codes_differ}
 use Rattle.sequences.specs.Dates.{HappensByTicks, table_date}
 use Rattle.sequences.specs.Rows.{row_with}
 use Rattle.sequences.specs.Sequences.{rows_with}
-use Rattle.sequences.specs.Tables.{TableDated, held}
+use Rattle.sequences.specs.Tables.{TableDated, Holds}
 use Rattle.sequences.specs.Walks.{Impossible}
 use Rattle.sequences.specs.declared.refusals.TableRefusal.{TableRefusal}
-use Rattle.sequences.specs.declared.table.Table.{Table}
 use Rattle.sequences.specs.declared.refusals.CloseRefusal.{CloseRefusal}
 use Rattle.sequences.specs.declared.refusals.CloseRefusal.TheVariants as close
 use Rattle.sequences.specs.declared.row.Factor.{Factor}
 use Rattle.sequences.specs.declared.row.Row.{Row}
 use Rattle.sequences.proofs.Closings.{one_rows, keeps_date, never_closes, refused_exactly}
-use Rattle.sequences.proofs.Only.{close_apart}
 use Rattle.steps.specs.declared.refusal.StepRefusal.{StepRefusal}
 use Rattle.steps.specs.declared.refusal.StepRefusal.TheVariants as step
-use Rattle.derivation.specs.Model.{State, Answer, Opened, Stepped, ClosingAsks, RowsOf, Closed}
+use Rattle.derivation.specs.Model.{State, Answer, Opened, Stepped, ClosingAsks, Closed}
 use Rattle.derivation.specs.Dating.{DatedAs}
 use Rattle.derivation.specs.Law.{Known, opening, stepping, Run, begun, then, TreeText, going, closing, OneNever, Lawful}
 use Rattle.derivation.proofs.Singles.{history_one, steps_granted}
@@ -126,18 +124,18 @@ closed_impossible h s run old r new c =
         absurd (f.0.fails (λ x closes. no_rows (λ fs. Impossible (row_with fs) → ⊥) x (one_rows s.present x [] closes (never_closes s.present n))))
 
 closed_one : (s : State) (old : List Row) (q r : Answer CloseRefusal) (a b : List Row) → Closed s old q a → Closed s old r b → (q ≡ r) × (a ≡ b)
-closed_one s old (Ok u) (Ok v) a b x y = (refl, x.1.each ∙ one_rows s.present x.1.sequences y.1.sequences x.1.closes y.1.closes ∙ sym y.1.each)
+closed_one s old (Ok u) (Ok v) a b x y = (refl, x.1.rows ∙ one_rows s.present x.1.sequences y.1.sequences x.1.closes y.1.closes ∙ sym y.1.rows)
 closed_one s old (Ok u) (Err f) a b x y = absurd (y.0.fails (x.0 f))
 closed_one s old (Err e) (Ok v) a b x y = absurd (x.0.fails (y.0 e))
 closed_one s old (Err e) (Err f) a b x y = (
-  ap Err (one_refusal {A = Unit {0}} close_code (ClosingAsks s) (λ _. Unit {0}) close_apart (λ g p q c d. refl) e f x.0 y.0),
+  ap Err (one_refusal {A = Unit {0}} close_code (ClosingAsks s) (λ _. Unit {0}) close_codes_differ (λ g p q c d. refl) e f x.0 y.0),
   x.1 ∙ sym y.1,
 )
 
 -- the table has the date of the tree last opened
-pub table_dates_lem : {D : Type 0} (K : Kind D) (d : ℕ → D) (h : List Known) (s : State) (new : List Row) → Run h s → RowsOf s.present new → (tree : List ℕ) → TreeText h tree → Same K (text_date K d tree) (table_date K d new)
+pub table_dates_lem : {D : Type 0} (K : Kind D) (d : ℕ → D) (h : List Known) (s : State) (new : List Row) → Run h s → Holds s.present new → (tree : List ℕ) → TreeText h tree → Same K (text_date K d tree) (table_date K d new)
 table_dates_lem K d h s new run w tree is =
-    subst (λ (x : List Row). Same K (text_date K d tree) (table_date K d x)) (sym w.each)
+    subst (λ (x : List Row). Same K (text_date K d tree) (table_date K d x)) (sym w.rows)
     (same_trans K _ _ _ (text_dates_lem K d h s run tree is) (keeps_date K d s.present w.sequences w.closes))
 
 closed_dates : (h : List Known) (s : State) → Run h s → (old : List Row) (r : Answer CloseRefusal) (new : List Row) → Closed s old r new → r ≡ Ok tt → (text : List ℕ) → TreeText h text → (K : Kind ℕ) (d : ℕ → ℕ) → Same K (text_date K d text) (table_date K d new)
@@ -159,7 +157,7 @@ lawful_closed h s old r new run c happen = record {
 }
 
 -- an answered date of the table is the same as that of the tree last opened
-pub table_dated_as : {D : Type 0} (K : Kind D) (ds : List D) (t : Table) (r : Result D TableRefusal) → TableDated K ds t r → (h : List Known) (s : State) (old : List Row) (text : List ℕ) → Run h s → Closed s old (Ok tt) (held t) → TreeText h text → DatedAs K ds text r
+pub table_dated_as : {D : Type 0} (K : Kind D) (ds : List D) (t : List Row) (r : Result D TableRefusal) → TableDated K ds t r → (h : List Known) (s : State) (old : List Row) (text : List ℕ) → Run h s → Closed s old (Ok tt) t → TreeText h text → DatedAs K ds text r
 table_dated_as K ds t (Ok p) o h s old text run c is =
-    subst (Same K (text_date K (dating_of K ds) text)) (sym o.1) (table_dates_lem K (dating_of K ds) h s (held t) run c.1 text is)
+    subst (Same K (text_date K (dating_of K ds) text)) (sym o.1) (table_dates_lem K (dating_of K ds) h s t run c.1 text is)
 table_dated_as K ds t (Err e) o h s old text run c is = tt

@@ -29,7 +29,7 @@ among_more m n (node o l r) h a = (among_more m n l h a.0, among_more m n r h a.
 pub is_text : (n : ℕ) (bs : List ℕ) → n ≤ 24 → length bs ≤ 511 → Whole n bs → IsText bs
 is_text n bs few short w = record { whole = record { term = w.term; written = w.written; letters = among_more n 24 w.term few w.letters }; short = short }
 
-module _ {D : Type 0} (K : Kind D) (text : List ℕ) (ds : List D) (room : ℕ) (no : (IsText text → ⊥) → ⊥) where
+module _ {D : Type 0} (K : Kind D) (text : List ℕ) (ds : List D) (room : ℕ) (is : IsText text) where
   dating_asks : (e : EvaluationRefusal) → EvaluationAsks text ds room e → DatingAsks ds room e
   dating_asks NoText w = tt
   dating_asks NoDating w = w
@@ -39,7 +39,7 @@ module _ {D : Type 0} (K : Kind D) (text : List ℕ) (ds : List D) (room : ℕ) 
   text_dated (Ok p) o =
       let w = (o.0 NoText).whole in
       (λ e. dating_asks e (o.0 e), o.1 w.term w.written ∙ sym (text_date_lem K (dating_of K ds) text w.term w.written))
-  text_dated (Err NoText) o = absurd (no o.fails)
+  text_dated (Err NoText) o = absurd (o.fails is)
   text_dated (Err NoDating) o = record { fails = o.fails; lower = λ f k. dating_asks f (o.lower f k) }
   text_dated (Err SmallWork) o = record { fails = o.fails; lower = λ f k. dating_asks f (o.lower f k) }
 

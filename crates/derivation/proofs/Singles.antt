@@ -1,11 +1,10 @@
 -- Each call has one outcome, and so the same calls have the same answers and lead to the same state.
 -- Assumes nothing.
-use Rattle.std.proofs.Common.{◌≡◌, ℕ, ◌<◌, true, cond, eqb, List, [], ◌∷◌, ◌++◌, map, length, Ok, Err, sym, refl, ap, ◌∙◌, subst, arith}
+use Rattle.std.proofs.Common.{◌≡◌, ℕ, ◌<◌, true, List, [], ◌∷◌, ◌++◌, map, length, Ok, Err, sym, refl, ap, ◌∙◌, subst, arith}
 use Rattle.algebra.specs.Refusals.{Granted}
 use Rattle.trees.specs.Reading.{gives, refuses}
-use Rattle.trees.specs.Refusals.{tree_code}
+use Rattle.trees.specs.Refusals.{tree_code, tree_codes_differ}
 use Rattle.trees.specs.declared.refusal.TreeRefusal.{TreeRefusal}
-use Rattle.trees.specs.declared.refusal.TreeRefusal.TheVariants as tree
 use Rattle.trees.proofs.One.{one_outcome}
 use Rattle.steps.specs.Records.{Request}
 use Rattle.steps.specs.Stepping.{SuppliesLacked}
@@ -16,19 +15,6 @@ use Rattle.steps.proofs.Fields.{says_one}
 use Rattle.derivation.specs.Model.{State, Answer, Opened, BenchAsks, Grantable, moved, Stepped}
 use Rattle.derivation.specs.Law.{Known, opening, stepping, asked, Happened, Run, begun, then}
 
--- a code tells its refusal
-tree_back : ℕ → TreeRefusal
-tree_back n = cond (eqb n 1) tree.Form (cond (eqb n 2) tree.Counts (cond (eqb n 3) tree.Input (cond (eqb n 4) tree.Dependent (cond (eqb n 5) tree.TooLong tree.NoSource))))
-
-tree_back_lem : (e : TreeRefusal) → tree_back (tree_code e) ≡ e
-unfolding tree_back
-tree_back_lem tree.Form = refl
-tree_back_lem tree.Counts = refl
-tree_back_lem tree.Input = refl
-tree_back_lem tree.Dependent = refl
-tree_back_lem tree.TooLong = refl
-tree_back_lem tree.NoSource = refl
-
 -- OPENING
 
 open_answer : (s : State) (bs : List ℕ) (q r : Answer TreeRefusal) (a b : State) → Opened s bs q a → Opened s bs r b → q ≡ r
@@ -38,7 +24,7 @@ open_answer s bs (Err e) (Ok v) a b x y = let e = one_outcome bs _ _ x.0 y.0 in 
 open_answer s bs (Err e) (Err f) a b x y =
     let both = one_outcome bs (refuses (tree_code e)) (refuses (tree_code f)) x.0 y.0 in
     let codes : tree_code e ≡ tree_code f = cc in
-    ap Err (sym (tree_back_lem e) ∙ ap tree_back codes ∙ tree_back_lem f)
+    ap Err (tree_codes_differ e f codes)
 
 -- with the answer known, the state after a call is determined
 opened_one : (s : State) (bs : List ℕ) (r : Answer TreeRefusal) (a b : State) → Opened s bs r a → Opened s bs r b → a ≡ b

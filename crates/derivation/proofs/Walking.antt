@@ -1,7 +1,7 @@
 -- The steps of a file, one more at a time.
 -- Assumes nothing.
-use Rattle.std.proofs.Common.{◌≡◌, ℕ, ◌+◌, ◌*◌, ◌≤◌, List, ◌∷◌, length, Some, None, Ok, Err, Option, Result, sym, ap, ◌∙◌, subst, arith, length-append, Bor}
-use Rattle.steps.specs.Files.{Begins, NextRecord, answer_at, fault_at}
+use Rattle.std.proofs.Common.{◌≡◌, ℕ, ◌+◌, List, [], ◌∷◌, Ok, Err, sym, subst, arith}
+use Rattle.steps.specs.Files.{Begins, CutOff, answer_at, fault_at}
 use Rattle.steps.specs.declared.file.StepFault.{StepFault}
 use Rattle.steps.specs.declared.refusal.StepRefusal.{StepRefusal}
 use Rattle.steps.specs.declared.refusal.StepRefusal.TheVariants.{Form}
@@ -15,19 +15,13 @@ pub record Underway (h : List Known) (file : List ℕ) (n : ℕ) (left : List �
   pub run : Run calls s
   pub on : (r : Answer StepFault) (h' : List Known) → Walked n left calls r h' → Walked 1 file h r h'
 
-pub underway_start : (h : List Known) (file : List ℕ) (s : State) → Run h s → Underway h file 1 file s
-underway_start h file s run = record { calls = h; run = run; on = λ r h' w. w }
-
 module _ (h : List Known) (file : List ℕ) (n : ℕ) (left : List ℕ) (s : State) (u : Underway h file n left s) where
-  pub made_cut : (a : Result (Option (Bor (List ℕ) × Bor (List ℕ))) StepRefusal) (f : StepFault) → NextRecord left a → answer_at n a ≡ Err f → Made h file (Err f) s
-  made_cut (Ok None) f next e = let z : ◌≡◌ {A = ℕ} 0 1 = cc in absurd (omega arith)
-  made_cut (Ok (Some p)) f next e = let z : ◌≡◌ {A = ℕ} 0 1 = cc in absurd (omega arith)
-  made_cut (Err x) f next e =
-      let is : fault_at n Form ≡ f = ap (fault_at n) (sym next.0) ∙ inner e in
-      record { calls = u.calls; walked = u.on (Err f) u.calls (subst (λ (y : StepFault). Walked n left u.calls (Err y) u.calls) is (cut n left u.calls next.1)); run = u.run }
-    where
-      inner : ◌≡◌ {A = Result (Option (Bor (List ℕ) × Bor (List ℕ))) StepFault} (Err (fault_at n x)) (Err f) → fault_at n x ≡ f
-      inner q = cc
+  pub made_cut : (f : StepFault) → f ≡ fault_at n Form → CutOff left → Made h file (Err f) s
+  made_cut f is end = record {
+    calls = u.calls;
+    walked = u.on (Err f) u.calls (subst (λ (y : StepFault). Walked n left u.calls (Err y) u.calls) (sym is) (cut n left u.calls end));
+    run = u.run;
+  }
 
   pub made_stopped : (bs rest : List ℕ) (a : Answer StepRefusal) (s' : State) (f : StepFault) → Begins left bs rest → Stepped s bs a s' → answer_at n a ≡ Err f → Made h file (Err f) s'
   made_stopped bs rest (Ok v) s' f b o e = let z : ◌≡◌ {A = ℕ} 0 1 = cc in absurd (omega arith)
@@ -40,10 +34,8 @@ module _ (h : List Known) (file : List ℕ) (n : ℕ) (left : List ℕ) (s : Sta
         run = then (stepping bs (Err x)) u.run o;
       }
 
-  pub made_ended : (a : Result (Option (Bor (List ℕ) × Bor (List ℕ))) StepRefusal) (o : Option (Bor (List ℕ) × Bor (List ℕ))) → NextRecord left a → answer_at n a ≡ Ok o → o ≡ None → Made h file (Ok tt) s
-  made_ended (Ok None) o next e no' = record { calls = u.calls; walked = u.on (Ok tt) u.calls (ended n left u.calls next); run = u.run }
-  made_ended (Ok (Some p)) o next e no' = let z : ◌≡◌ {A = ℕ} 0 1 = cc in absurd (omega arith)
-  made_ended (Err x) o next e no' = let z : ◌≡◌ {A = ℕ} 0 1 = cc in absurd (omega arith)
+  pub made_ended : left ≡ [] → Made h file (Ok tt) s
+  made_ended end = record { calls = u.calls; walked = u.on (Ok tt) u.calls (ended n left u.calls end); run = u.run }
 
   pub underway_more : (bs rest : List ℕ) (a : Answer StepRefusal) (s' : State) → Begins left bs rest → Stepped s bs a s' → answer_at n a ≡ Ok tt → Underway h file (n + 1) rest s'
   underway_more bs rest (Ok v) s' b o e = record {
@@ -52,6 +44,3 @@ module _ (h : List Known) (file : List ℕ) (n : ℕ) (left : List ℕ) (s : Sta
     on = λ r h' w. u.on r h' (went n left u.calls bs rest r h' b w);
   }
   underway_more bs rest (Err x) s' b o e = let z : ◌≡◌ {A = ℕ} 0 1 = cc in absurd (omega arith)
-
-pub count_more : (file left bs rest : List ℕ) (n : ℕ) → 2 * n + length left ≤ 2 + length file → Begins left bs rest → 2 * (n + 1) + length rest ≤ 2 + length file
-count_more file left bs rest n h b = omega (arith, h, ap length b.bytes, length-append bs rest)

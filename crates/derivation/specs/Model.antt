@@ -9,10 +9,9 @@ use Rattle.trees.specs.Refusals.{tree_code}
 use Rattle.trees.specs.declared.refusal.TreeRefusal.{TreeRefusal}
 use Rattle.sequences.specs.Closing.{CloseAsks}
 use Rattle.sequences.specs.Codes.{close_code}
-use Rattle.sequences.specs.Sequences.{TextCloses, rows_with}
+use Rattle.sequences.specs.Tables.{Holds}
 use Rattle.sequences.specs.declared.refusals.CloseRefusal.{CloseRefusal}
 use Rattle.sequences.specs.declared.refusals.CloseRefusal.TheVariants as close
-use Rattle.sequences.specs.declared.row.Factor.{Factor}
 use Rattle.sequences.specs.declared.row.Row.{Row}
 use Rattle.steps.specs.Records.{Request, Says}
 use Rattle.steps.specs.Refusals.{step_code}
@@ -76,13 +75,7 @@ ClosingAsks s close.NoSum = CloseAsks s.present close.NoSum
 ClosingAsks s close.TooMany = CloseAsks s.present close.TooMany
 ClosingAsks s close.ImpossibleSequence = CloseAsks s.present close.ImpossibleSequence
 
--- the rows are those of the text's sequences, from left to right
-pub record RowsOf (text : List ℕ) (rows : List Row) : Type 0 where
-  pub sequences : List (List Factor)
-  pub closes : TextCloses text sequences
-  pub each : rows ≡ rows_with sequences
-
 -- a granted closing replaces the table's rows by those of the present text; a refused one leaves them
 abbrev pub Closed : State → List Row → Answer CloseRefusal → List Row → Type 0
-Closed s old (Ok u) new = Granted (ClosingAsks s) × RowsOf s.present new
+Closed s old (Ok u) new = Granted (ClosingAsks s) × Holds s.present new
 Closed s old (Err e) new = Refused close_code (ClosingAsks s) e × (new ≡ old)

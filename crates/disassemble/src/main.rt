@@ -2,32 +2,15 @@
 #![tactic(auto)]
 
 use assembly::tree_bytes::{Layout, read_layout};
+use front_of_file::read;
 use notation::records::record_line;
 use notation::step_words::step_line;
-use std::fs::File;
-use std::io;
-use std::io::Read;
-use std::str::from_utf8;
-use steps::file::next_record;
+use std::io::{self, Write};
 use steps::record::read_step;
-
-// How much of a file is read.
-const MOST: u64 = 60_000;
-
-// The first bytes of a file; one that cannot be read counts as empty.
-fn file(rt: &HostRuntime, name: &str) -> Vec<u8> {
-    let mut bytes = Vec::new(rt.alloc());
-    if let Ok(file) = File::open(rt, name) {
-        let mut front = file.take(MOST);
-        if front.read_to_end(&mut bytes).is_err() {
-            return Vec::new(rt.alloc());
-        }
-    }
-    bytes
-}
+use steps::records::Records;
 
 // The lines of a tree.
-fn tell_tree(rt: &HostRuntime, layout: &Layout) -> io::Result<()> {
+fn tell_tree(rt: &(impl Print + AllocGlobal), layout: &Layout) -> io::Result<()> {
     let events = layout.events;
     println!(rt; "events {events}")?;
     for one in layout.records.as_slice() {
@@ -38,41 +21,42 @@ fn tell_tree(rt: &HostRuntime, layout: &Layout) -> io::Result<()> {
 }
 
 // The line of a step record, or that it is not well-formed.
-fn tell_step(rt: &HostRuntime, events: u8, number: usize, bytes: &[u8]) -> io::Result<()> {
+fn tell_step(
+    rt: &(impl Print + AllocGlobal),
+    events: u8,
+    number: usize,
+    bytes: &[u8],
+) -> io::Result<()> {
     let Ok(said) = read_step(bytes, events) else {
         return println!(rt; "# step {number} is not well-formed");
     };
-    let line = step_line(rt.alloc(), &said)?;
-    match from_utf8(line.as_slice()) {
-        Ok(text) => println!(rt; "{text}"),
-        Err(_) => println!(rt; "# step {number} is not well-formed"),
-    }
+    let mut line = step_line(rt.alloc(), &said)?;
+    line.push(b'\n')?;
+    io::writer(rt).write_all(line.as_slice())
 }
 
 // The lines of a file of steps.
-fn tell_steps(rt: &HostRuntime, events: u8, file: &[u8]) -> io::Result<()> {
-    let mut left = file;
-    let mut number = 1usize;
-    loop {
-        match next_record(left) {
-            Ok(None) => return Ok(()),
-            Ok(Some((bytes, rest))) => {
-                tell_step(rt, events, number, bytes)?;
-                left = rest;
-                number = number.saturating_add(1);
+fn tell_steps(rt: &(impl Print + AllocGlobal), events: u8, file: &[u8]) -> io::Result<()> {
+    for record in Records::of(file) {
+        match record {
+            Ok((number, bytes)) => tell_step(rt, events, number, bytes)?,
+            Err(fault) => {
+                let number = fault.step;
+                println!(rt; "# step {number} is cut off by the end of the file")?;
             }
-            Err(_) => return println!(rt; "# step {number} is cut off by the end of the file"),
         }
     }
+    Ok(())
 }
 
+// A file that cannot be read counts as empty.
 fn main(rt: HostRuntime) -> io::Result<()> {
-    let tree = file(&rt, "tree.bin");
-    match read_layout(rt.alloc(), tree.as_slice()) {
-        Ok(layout) => {
-            tell_tree(&rt, &layout)?;
-            tell_steps(&rt, layout.events, file(&rt, "steps.bin").as_slice())
-        }
-        Err(_) => println!(rt; "# tree.bin is not made of records"),
-    }
+    let alloc = rt.alloc();
+    let tree = read(&rt, alloc, "tree.bin").unwrap_or(Vec::new(alloc));
+    let steps = read(&rt, alloc, "steps.bin").unwrap_or(Vec::new(alloc));
+    let Ok(layout) = read_layout(alloc, tree.as_slice()) else {
+        return println!(rt; "# tree.bin is not made of records");
+    };
+    tell_tree(&rt, &layout)?;
+    tell_steps(&rt, layout.events, steps.as_slice())
 }

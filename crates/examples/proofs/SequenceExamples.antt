@@ -7,15 +7,16 @@ use Rattle.sequences.specs.Masks.{has}
 use Rattle.sequences.specs.Lines.{sifted, paired}
 use Rattle.sequences.specs.Rows.{row_with}
 use Rattle.sequences.specs.Sequences.{TextCloses, less, factor, both, sequence, sum}
-use Rattle.sequences.specs.Walks.{Impossible, stay, SomeImpossible}
+use Rattle.sequences.specs.Walks.{Impossible, stay}
 use Rattle.sequences.specs.Walks as walks
 use Rattle.sequences.specs.declared.row.Factor.{Factor}
-use Rattle.sequences.specs.declared.row.Factor.TheVariants.{Less}
+use Rattle.sequences.specs.declared.row.Sign.TheVariants.{Precedes}
+use Rattle.sequences.specs.declared.row.Factor.TheVariants.{Pair}
 use Rattle.sequences.proofs.Closings.{one_impossible}
 use Rattle.examples.specs.Sequences.{SequenceExamples}
 
 circle : List Factor
-circle = Less 0 1 ∷ Less 1 2 ∷ Less 2 0 ∷ []
+circle = Pair Precedes 0 1 ∷ Pair Precedes 1 2 ∷ Pair Precedes 2 0 ∷ []
 
 closes : TextCloses (codes "**<ab<bc<ca") (circle ∷ [])
 unfolding circle
@@ -37,7 +38,7 @@ around = record { at = 0; walk = walks.less {w = 1} tt (walks.less {w = 2} tt (w
 pub sequence_examples : SequenceExamples
 unfolding has sifted paired
 sequence_examples = record {
-  circle = one_impossible (codes "**<ab<bc<ca") (circle ∷ []) closes (omega arith) (record { at = 0; low = omega arith; impossible = around });
+  circle = one_impossible (codes "**<ab<bc<ca") (circle ∷ []) closes (omega arith) (0, row_with circle, omega arith, refl, around);
   number = refl;
   lines = refl;
 }

@@ -1,4 +1,6 @@
 // Evaluations, run: dates of three kinds, and each refusal.
+use crate::sums::long_sum;
+use algebra::Refusal;
 use dates::{Cause, Date, ShiftTick, Tick};
 use std::test::Fail;
 use texts::evaluation::evaluate;
@@ -10,10 +12,9 @@ fn ticks(text: &[u8], a: u32, b: u32) -> Result<u32, u8> {
     dating[0] = Tick { value: a };
     dating[1] = Tick { value: b };
     let mut work = [Tick::never(); 256];
-    match evaluate(text, &dating, &mut work) {
-        Ok(at) => Ok(at.value),
-        Err(refusal) => Err(refusal.code()),
-    }
+    evaluate(text, &dating, &mut work)
+        .map(|at| at.value)
+        .map_err(|refusal| refusal.code())
 }
 
 #[test]
@@ -38,13 +39,9 @@ fn shifts_come_before_ticks(rt: HostRuntime) -> Result<(), Fail> {
     dating[0] = a;
     dating[1] = b;
     let mut work = [ShiftTick::never(); 256];
-    match evaluate(b"<ab", &dating, &mut work) {
-        Ok(at) => {
-            assert_eq!(rt; at.value, 2 * 28_800 + 28_799);
-            Ok(())
-        },
-        Err(refusal) => Err(Fail::new(refusal.code())),
-    }
+    let at = evaluate(b"<ab", &dating, &mut work)?;
+    assert_eq!(rt; at.value, 2 * 28_800 + 28_799);
+    Ok(())
 }
 
 #[test]
@@ -57,13 +54,9 @@ fn two_causes_are_the_same(rt: HostRuntime) -> Result<(), Fail> {
     dating[0] = a;
     dating[1] = b;
     let mut work = [Cause::never(); 256];
-    match evaluate(b"<ab", &dating, &mut work) {
-        Ok(at) => {
-            assert!(rt; Cause::never().no_later(at));
-            Ok(())
-        },
-        Err(refusal) => Err(Fail::new(refusal.code())),
-    }
+    let at = evaluate(b"<ab", &dating, &mut work)?;
+    assert!(rt; Cause::never().no_later(at));
+    Ok(())
 }
 
 #[test]
@@ -74,30 +67,16 @@ fn each_refusal(rt: HostRuntime) {
     assert_eq!(rt; ticks(b"y", 1, 2), Err(51));
     let mut work = [Tick::never(); 256];
     let dating = [Tick::never(); 25];
-    let code = match evaluate(b"a", &dating[0..23], &mut work) {
-        Ok(_) => 0,
-        Err(refusal) => refusal.code(),
-    };
-    assert_eq!(rt; code, 52);
-    let code = match evaluate(b"a", &dating[0..24], &mut work[0..255]) {
-        Ok(_) => 0,
-        Err(refusal) => refusal.code(),
-    };
-    assert_eq!(rt; code, 53);
-}
-
-// 255 times + and then only a: the first 511 bytes are one whole term.
-fn long_sum() -> [u8; 513] {
-    let mut bytes = [b'+'; 513];
-    for i in 255..513 {
-        bytes[i] = b'a';
-    }
-    bytes
+    let few = evaluate(b"a", &dating[..23], &mut work).map_err(|refusal| refusal.code());
+    assert_eq!(rt; few.err(), Some(52));
+    let small = evaluate(b"a", &dating[..24], &mut work[..255]).map_err(|refusal| refusal.code());
+    assert_eq!(rt; small.err(), Some(53));
 }
 
 #[test]
 fn the_longest_text(rt: HostRuntime) {
-    let text = long_sum();
+    // The first 511 bytes are one whole term.
+    let text: [u8; 513] = long_sum(255);
     assert!(rt; is_text(&text[0..511]));
     assert_eq!(rt; ticks(&text[0..511], 9, 0), Ok(9));
     assert!(rt; !is_text(&text[0..512]));

@@ -10,6 +10,8 @@ mod sequences_of_texts;
 #[cfg(test)]
 mod steps_of_texts;
 #[cfg(test)]
+mod sums;
+#[cfg(test)]
 mod texts_of_trees;
 
 // The examples hold of the definitions that the contracts cite.

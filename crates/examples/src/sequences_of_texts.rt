@@ -1,23 +1,24 @@
 // Closings, dates and lines of tables, run: what is granted, and each refusal.
+use crate::sums::long_sum;
+use algebra::Refusal;
 use dates::{Date, Tick};
 use sequences::table::Table;
+use std::test::Fail;
 
 // What came of closing a text in a new table: the number of rows, or else the refusal's number.
 fn closed(text: &[u8]) -> Result<usize, u8> {
     let mut table = Table::new();
-    match table.close(text) {
-        Ok(_) => Ok(table.len()),
-        Err(refusal) => Err(refusal.code()),
-    }
+    table.close(text).map_err(|refusal| refusal.code())?;
+    Ok(table.len())
 }
 
 // Whether the row prints as the line.
 fn prints_as(table: &Table, row: usize, line: &[u8]) -> bool {
     let mut buffer = [0; 512];
-    match table.line(row, &mut buffer) {
-        Ok(length) => length <= 512 && &buffer[0..length] == line,
-        Err(_) => false,
-    }
+    let Ok(length) = table.line(row, &mut buffer) else {
+        return false;
+    };
+    buffer.get(..length) == Some(line)
 }
 
 #[test]
@@ -44,20 +45,12 @@ fn a_line_in_order(rt: HostRuntime) {
     assert!(rt; prints_as(&table, 0, b"c x a<b x<b a=c\n"));
 }
 
-// 64 times + and then only a: the first 127 bytes from place 1 are a sum of 64 sequences, all 129 one of 65.
-fn long_sum() -> [u8; 129] {
-    let mut bytes = [b'+'; 129];
-    for i in 64..129 {
-        bytes[i] = b'a';
-    }
-    bytes
-}
-
 #[test]
 fn at_most_64_sequences(rt: HostRuntime) {
-    let text = long_sum();
+    // The 127 bytes from place 1 are a sum of 64 sequences, all 129 one of 65.
+    let text: [u8; 129] = long_sum(64);
     assert_eq!(rt; closed(&text[1..128]), Ok(64));
-    assert_eq!(rt; closed(&text[0..129]), Err(23));
+    assert_eq!(rt; closed(&text[..129]), Err(23));
 }
 
 #[test]
@@ -86,28 +79,22 @@ fn a_refusal_leaves_the_table(rt: HostRuntime) {
 // The longest text of one sequence: 127 times *, and then 128 different pairs.
 fn long_sequence() -> [u8; 511] {
     let mut bytes = [b'*'; 511];
-    for k in 0..128 {
-        bytes[3 * k + 127] = b'<';
-        bytes[3 * k + 128] = b'a' + (k / 16) as u8;
-        bytes[3 * k + 129] = b'i' + (k % 16) as u8;
+    for (k, pair) in bytes[127..].chunks_mut(3).enumerate() {
+        pair.copy_from_slice(&[b'<', b'a' + (k / 16) as u8, b'i' + (k % 16) as u8]);
     }
     bytes
 }
 
 #[test]
-fn the_longest_line(rt: HostRuntime) {
+fn the_longest_line(rt: HostRuntime) -> Result<(), Fail> {
     let mut table = Table::new();
-    let text = long_sequence();
-    assert!(rt; table.close(&text).is_ok());
+    table.close(&long_sequence())?;
     let mut buffer = [0; 512];
-    let length = match table.line(0, &mut buffer) {
-        Ok(length) => length,
-        Err(_) => 0,
-    };
-    assert_eq!(rt; length, 512);
+    assert_eq!(rt; table.line(0, &mut buffer)?, 512);
     assert_eq!(rt; buffer[0], b'a');
     assert_eq!(rt; buffer[510], b'x');
     assert_eq!(rt; buffer[511], b'\n');
+    Ok(())
 }
 
 #[test]
@@ -115,16 +102,12 @@ fn no_line(rt: HostRuntime) {
     let mut table = Table::new();
     assert!(rt; table.close(b"a").is_ok());
     let mut buffer = [7; 513];
-    let code = match table.line(5, &mut buffer[0..511]) {
-        Ok(_) => 0,
-        Err(refusal) => refusal.code(),
-    };
-    assert_eq!(rt; code, 54);
-    let code = match table.line(1, &mut buffer) {
-        Ok(_) => 0,
-        Err(refusal) => refusal.code(),
-    };
-    assert_eq!(rt; code, 55);
+    let small = table
+        .line(5, &mut buffer[..511])
+        .map_err(|refusal| refusal.code());
+    assert_eq!(rt; small, Err(54));
+    let none = table.line(1, &mut buffer).map_err(|refusal| refusal.code());
+    assert_eq!(rt; none, Err(55));
     assert!(rt; table.line(0, &mut buffer).is_ok());
     assert_eq!(rt; buffer[1], b'\n');
     assert_eq!(rt; buffer[2], 7);
@@ -133,17 +116,15 @@ fn no_line(rt: HostRuntime) {
 // The date of the table that the text closes to, where a, b and c have these dates.
 fn ticks(text: &[u8], a: u32, b: u32, c: u32) -> Result<u32, u8> {
     let mut table = Table::new();
-    if let Err(refusal) = table.close(text) {
-        return Err(refusal.code());
-    }
+    table.close(text).map_err(|refusal| refusal.code())?;
     let mut dating = [Tick::never(); 24];
     dating[0] = Tick { value: a };
     dating[1] = Tick { value: b };
     dating[2] = Tick { value: c };
-    match table.date(&dating) {
-        Ok(at) => Ok(at.value),
-        Err(refusal) => Err(refusal.code()),
-    }
+    table
+        .date(&dating)
+        .map(|at| at.value)
+        .map_err(|refusal| refusal.code())
 }
 
 #[test]
@@ -157,10 +138,7 @@ fn dates_of_tables(rt: HostRuntime) {
     assert_eq!(rt; ticks(b"N", 1, 2, 3), Ok(u32::MAX));
     let table = Table::new();
     let dating = [Tick::never(); 25];
-    let code = match table.date(&dating[0..23]) {
-        Ok(_) => 0,
-        Err(refusal) => refusal.code(),
-    };
-    assert_eq!(rt; code, 52);
+    let few = table.date(&dating[..23]).map_err(|refusal| refusal.code());
+    assert_eq!(rt; few.err(), Some(52));
     assert!(rt; table.date(&dating).is_err());
 }

@@ -1,4 +1,6 @@
 // Steps, run: each rule both ways, the longest texts, each refusal, and files of steps.
+use crate::sums::long_sum;
+use algebra::Refusal;
 use std::alloc::{AllocError, Global};
 use std::process::Abort;
 use std::test::Fail;
@@ -9,29 +11,24 @@ use texts::text::Text;
 
 fn text_of(rt: &impl Abort, bytes: &[u8]) -> Text {
     let mut text = Text::empty();
-    assert!(rt; text.append(bytes));
+    assert!(rt; text.append(bytes).is_ok());
     text
 }
 
 // The step of the record leads from one text to the other, in a tree with three events.
 fn leads(rt: &impl Abort, old: &[u8], bytes: &[u8], new: &[u8]) -> Result<(), Fail> {
     let text = text_of(rt, old);
-    match apply_step(&text, 3, bytes) {
-        Ok(made) => {
-            assert!(rt; made.as_bytes() == new);
-            Ok(())
-        },
-        Err(refusal) => Err(Fail::new(refusal.code())),
-    }
+    let made = apply_step(&text, 3, bytes)?;
+    assert!(rt; made.as_bytes() == new);
+    Ok(())
 }
 
-// The number of the refusal of a step, or 0.
-fn code_of(rt: &impl Abort, old: &[u8], bytes: &[u8]) -> u8 {
+// The number of the refusal of a step.
+fn code_of(rt: &impl Abort, old: &[u8], bytes: &[u8]) -> Option<u8> {
     let text = text_of(rt, old);
-    match apply_step(&text, 3, bytes) {
-        Ok(_) => 0,
-        Err(refusal) => refusal.code(),
-    }
+    apply_step(&text, 3, bytes)
+        .err()
+        .map(|refusal| refusal.code())
 }
 
 #[test]
@@ -43,219 +40,177 @@ fn one_step_after_the_other(rt: HostRuntime) -> Result<(), Fail> {
 // A rule with a, b and c for X, Y and Z.
 #[derive(Clone, Copy)]
 struct Sides {
-    rule: u8,
     left: &'static [u8],
     right: &'static [u8],
 }
 
+// The rules in order, from 1.
 const SHEET: [Sides; 42] = [
     Sides {
-        rule: 1,
         left: b"+ab",
         right: b"+ba",
     },
     Sides {
-        rule: 2,
         left: b"++abc",
         right: b"+a+bc",
     },
     Sides {
-        rule: 3,
         left: b"+aa",
         right: b"a",
     },
     Sides {
-        rule: 4,
         left: b"+aN",
         right: b"a",
     },
     Sides {
-        rule: 5,
         left: b"*ab",
         right: b"*ba",
     },
     Sides {
-        rule: 6,
         left: b"**abc",
         right: b"*a*bc",
     },
     Sides {
-        rule: 7,
         left: b"*aa",
         right: b"a",
     },
     Sides {
-        rule: 8,
         left: b"*aN",
         right: b"N",
     },
     Sides {
-        rule: 9,
         left: b"*a+bc",
         right: b"+*ab*ac",
     },
     Sides {
-        rule: 10,
         left: b"+a*ab",
         right: b"a",
     },
     Sides {
-        rule: 11,
         left: b"+a*bc",
         right: b"*+ab+ac",
     },
     Sides {
-        rule: 12,
         left: b"[ab",
         right: b"+<ab=ab",
     },
     Sides {
-        rule: 13,
         left: b"=ab",
         right: b"=ba",
     },
     Sides {
-        rule: 14,
         left: b"<aa",
         right: b"N",
     },
     Sides {
-        rule: 15,
         left: b"=aa",
         right: b"a",
     },
     Sides {
-        rule: 16,
         left: b"<Na",
         right: b"N",
     },
     Sides {
-        rule: 17,
         left: b"<aN",
         right: b"a",
     },
     Sides {
-        rule: 18,
         left: b"=aN",
         right: b"N",
     },
     Sides {
-        rule: 19,
         left: b"<+abc",
         right: b"+<ac<bc",
     },
     Sides {
-        rule: 20,
         left: b"<*abc",
         right: b"*<ac<bc",
     },
     Sides {
-        rule: 21,
         left: b"<a+bc",
         right: b"*<ab<ac",
     },
     Sides {
-        rule: 22,
         left: b"<a*bc",
         right: b"+<ab<ac",
     },
     Sides {
-        rule: 23,
         left: b"=a+bc",
         right: b"+*=ab[bc*=ac[cb",
     },
     Sides {
-        rule: 24,
         left: b"=a*bc",
         right: b"+*=ab[cb*=ac[bc",
     },
     Sides {
-        rule: 25,
         left: b"*ab",
         right: b"++*b<ab*a<ba=ab",
     },
     Sides {
-        rule: 26,
         left: b"*<ab<ba",
         right: b"N",
     },
     Sides {
-        rule: 27,
         left: b"*<ab=ab",
         right: b"N",
     },
     Sides {
-        rule: 28,
         left: b"*=ab=bc",
         right: b"*=ab=ac",
     },
     Sides {
-        rule: 29,
         left: b"*<ab<bc",
         right: b"**<ab<bc<ac",
     },
     Sides {
-        rule: 30,
         left: b"*<ab=ac",
         right: b"*=ac<cb",
     },
     Sides {
-        rule: 31,
         left: b"*<ba=ac",
         right: b"*<bc=ac",
     },
     Sides {
-        rule: 32,
         left: b"<<abc",
         right: b"*<ab<ac",
     },
     Sides {
-        rule: 33,
         left: b"<a<bc",
         right: b"+<ab*a[cb",
     },
     Sides {
-        rule: 34,
         left: b"=<abc",
         right: b"*<ab=ac",
     },
     Sides {
-        rule: 35,
         left: b"==abc",
         right: b"*=ab=ac",
     },
     Sides {
-        rule: 36,
         left: b"<=abc",
         right: b"*=ab<ac",
     },
     Sides {
-        rule: 37,
         left: b"<a=bc",
         right: b"+<ab+*a<bc*a<cb",
     },
     Sides {
-        rule: 38,
         left: b"*a<ab",
         right: b"<ab",
     },
     Sides {
-        rule: 39,
         left: b"+a<ab",
         right: b"a",
     },
     Sides {
-        rule: 40,
         left: b"*a=ab",
         right: b"=ab",
     },
     Sides {
-        rule: 41,
         left: b"+a=ab",
         right: b"a",
     },
     Sides {
-        rule: 42,
         left: b"a",
         right: b"++<ab=ab*a<ba",
     },
@@ -266,11 +221,6 @@ fn lacks(old: &[u8], new: &[u8], letter: u8) -> bool {
     new.contains(&letter) && !old.contains(&letter)
 }
 
-// The bit, where it stands.
-fn bit(stands: bool, value: u8) -> u8 {
-    if stands { value } else { 0 }
-}
-
 // The record of a step at the place 0 that leads from one side to the other.
 fn record_of(
     heap: Global,
@@ -279,86 +229,77 @@ fn record_of(
     old: &[u8],
     new: &[u8],
 ) -> Result<Vec<u8>, AllocError> {
-    let x = lacks(old, new, b'a');
-    let y = lacks(old, new, b'b');
-    let z = lacks(old, new, b'c');
-    let mut bytes = [3 | bit(x, 8) | bit(y, 16) | bit(z, 32), rule, way].to_vec(heap)?;
-    if x {
-        bytes.extend_from_slice(&[1, b'a'])?;
+    let mut map = 3;
+    let mut terms = Vec::new(heap);
+    for (letter, bit) in [(b'a', 8), (b'b', 16), (b'c', 32)] {
+        if lacks(old, new, letter) {
+            map |= bit;
+            terms.extend_from_slice(&[1, letter])?;
+        }
     }
-    if y {
-        bytes.extend_from_slice(&[1, b'b'])?;
-    }
-    if z {
-        bytes.extend_from_slice(&[1, b'c'])?;
-    }
+    let mut bytes = [map, rule, way].to_vec(heap)?;
+    bytes.extend_from_slice(terms.as_slice())?;
     Ok(bytes)
 }
 
 #[test]
 fn each_rule_both_ways(rt: HostRuntime) -> Result<(), Fail> {
-    for s in &SHEET {
-        let forward = record_of(rt.alloc(), s.rule, 0, s.left, s.right)?;
+    for (rule, s) in (1u8..).zip(&SHEET) {
+        let forward = record_of(rt.alloc(), rule, 0, s.left, s.right)?;
         leads(&rt, s.left, &forward, s.right)?;
-        let backward = record_of(rt.alloc(), s.rule, 1, s.right, s.left)?;
+        let backward = record_of(rt.alloc(), rule, 1, s.right, s.left)?;
         leads(&rt, s.right, &backward, s.left)?;
     }
     Ok(())
 }
 
-// 128 times + and then only a: one whole term of 257 bytes, and one of 255 without its ends.
-fn long_sum() -> [u8; 257] {
-    let mut bytes = [b'a'; 257];
-    for i in 0..128 {
-        bytes[i] = b'+';
-    }
-    bytes
-}
-
 #[test]
 fn the_longest_text(rt: HostRuntime) -> Result<(), Fail> {
-    let sum = long_sum();
+    // One whole term of 257 bytes, and one of 255 without its ends.
+    let sum: [u8; 257] = long_sum(128);
     let short = &sum[1..256];
     let text = text_of(&rt, short);
-    let Ok(made) = apply_step(&text, 1, &[3, 3, 1]) else {
-        return Err(Fail::new("refused"));
-    };
+    let made = apply_step(&text, 1, &[3, 3, 1])?;
     let bytes = made.as_bytes();
     assert!(rt; bytes.len() == 511);
     assert!(rt; bytes[0] == b'+' && &bytes[1..256] == short && &bytes[256..511] == short);
-    assert_eq!(rt; code_of(&rt, &sum, &[3, 3, 1]), 16);
+    assert_eq!(rt; code_of(&rt, &sum, &[3, 3, 1]), Some(16));
     Ok(())
 }
 
 #[test]
 fn a_record_breaks_its_form(rt: HostRuntime) {
-    assert_eq!(rt; code_of(&rt, b"+ab", &[]), 12, "no map");
-    assert_eq!(rt; code_of(&rt, b"+ab", &[0]), 12, "no rule");
-    assert_eq!(rt; code_of(&rt, b"+ab", &[0x41, 1]), 12, "bit 6");
-    assert_eq!(rt; code_of(&rt, b"+ab", &[1, 0]), 12, "rule 0");
-    assert_eq!(rt; code_of(&rt, b"+ab", &[1, 43]), 12, "rule 43");
-    assert_eq!(rt; code_of(&rt, b"+ab", &[3, 1, 2]), 12, "way 2");
-    assert_eq!(rt; code_of(&rt, b"+ab", &[5, 1, 0]), 12, "half a place");
-    assert_eq!(rt; code_of(&rt, b"+ab", &[1, 1, 0]), 12, "bytes left over");
-    assert_eq!(rt; code_of(&rt, b"a", &[0x11, 42, 0]), 12, "length 0");
+    assert_eq!(rt; code_of(&rt, b"+ab", &[]), Some(12), "no map");
+    assert_eq!(rt; code_of(&rt, b"+ab", &[0]), Some(12), "no rule");
+    assert_eq!(rt; code_of(&rt, b"+ab", &[0x41, 1]), Some(12), "bit 6");
+    assert_eq!(rt; code_of(&rt, b"+ab", &[1, 0]), Some(12), "rule 0");
+    assert_eq!(rt; code_of(&rt, b"+ab", &[1, 43]), Some(12), "rule 43");
+    assert_eq!(rt; code_of(&rt, b"+ab", &[3, 1, 2]), Some(12), "way 2");
+    assert_eq!(rt; code_of(&rt, b"+ab", &[5, 1, 0]), Some(12), "half a place");
+    assert_eq!(rt;
+        code_of(&rt, b"+ab", &[1, 1, 0]),
+        Some(12),
+        "bytes left over"
+    );
+    assert_eq!(rt; code_of(&rt, b"a", &[0x11, 42, 0]), Some(12), "length 0");
     assert_eq!(rt;
         code_of(&rt, b"a", &[0x11, 42, 2, b'b']),
-        12,
+        Some(12),
         "a term cut off"
     );
     assert_eq!(rt;
         code_of(&rt, b"a", &[0x11, 42, 1, b'+']),
-        12,
+        Some(12),
         "no whole term"
     );
     assert_eq!(rt;
         code_of(&rt, b"a", &[0x11, 42, 2, b'b', b'b']),
-        12,
+        Some(12),
         "two terms"
     );
     assert_eq!(rt;
         code_of(&rt, b"a", &[0x11, 42, 1, b'd']),
-        12,
+        Some(12),
         "no event of the tree"
     );
 }
@@ -366,27 +307,27 @@ fn a_record_breaks_its_form(rt: HostRuntime) {
 #[test]
 fn each_other_refusal(rt: HostRuntime) -> Result<(), Fail> {
     assert_eq!(rt; StepRefusal::NoTree.code(), 11);
-    assert_eq!(rt; code_of(&rt, b"a", &[1, 42]), 13, "a lacked term");
+    assert_eq!(rt; code_of(&rt, b"a", &[1, 42]), Some(13), "a lacked term");
     assert_eq!(rt;
         code_of(&rt, b"+ab", &[9, 1, 1, b'a']),
-        13,
+        Some(13),
         "a term too many"
     );
     assert_eq!(rt;
         code_of(&rt, b"a", &[0x15, 42, 0, 1, 1, b'b']),
-        14,
+        Some(14),
         "at the end"
     );
     assert_eq!(rt;
         code_of(&rt, b"a", &[5, 42, 0, 9]),
-        13,
+        Some(13),
         "13 comes before 14"
     );
-    assert_eq!(rt; code_of(&rt, b"+ab", &[1, 5]), 15, "another operator");
-    assert_eq!(rt; code_of(&rt, b"+ab", &[1, 3]), 15, "two terms for X");
+    assert_eq!(rt; code_of(&rt, b"+ab", &[1, 5]), Some(15), "another operator");
+    assert_eq!(rt; code_of(&rt, b"+ab", &[1, 3]), Some(15), "two terms for X");
     assert_eq!(rt;
         code_of(&rt, b"++aba", &[5, 3, 0, 1]),
-        15,
+        Some(15),
         "the second place of X"
     );
     leads(&rt, b"+b+aa", &[5, 3, 0, 2], b"+ba")
@@ -396,18 +337,12 @@ fn each_other_refusal(rt: HostRuntime) -> Result<(), Fail> {
 fn a_file_of_steps(rt: HostRuntime) -> Result<(), Fail> {
     let file = [0, 4, 0x05, 0x0c, 0, 2, 0, 2, 0x01, 0x09, 0, 2, 0x01, 3];
     let text = text_of(&rt, b"*b[ab");
-    let Ok(made) = apply_steps(text, 2, &file[0..10]) else {
-        return Err(Fail::new("refused"));
-    };
+    let made = apply_steps(text, 2, &file[..10])?;
     assert!(rt; made.as_bytes() == b"+*b<ab*b=ab".as_slice());
-    let Err(fault) = apply_steps(text, 2, &file) else {
-        return Err(Fail::new("granted"));
-    };
+    let fault = apply_steps(text, 2, &file).err().ok_or("granted")?;
     assert_eq!(rt; fault.step, 3);
     assert_eq!(rt; fault.refusal.code(), 15);
-    let Err(fault) = apply_steps(text, 2, &file[0..9]) else {
-        return Err(Fail::new("granted"));
-    };
+    let fault = apply_steps(text, 2, &file[..9]).err().ok_or("granted")?;
     assert_eq!(rt; fault.step, 2);
     assert_eq!(rt; fault.refusal.code(), 12);
     Ok(())
@@ -415,13 +350,9 @@ fn a_file_of_steps(rt: HostRuntime) -> Result<(), Fail> {
 
 #[test]
 fn the_records_of_a_file(rt: HostRuntime) -> Result<(), Fail> {
-    let Ok(Some((bytes, rest))) = next_record(&[0, 1, 7, 0]) else {
-        return Err(Fail::new("no record"));
-    };
+    let (bytes, rest) = next_record(&[0, 1, 7, 0])?.ok_or("no record")?;
     assert!(rt; bytes == [7].as_slice() && rest == [0].as_slice());
     assert!(rt; next_record(rest).is_err());
-    let Ok(None) = next_record(&[]) else {
-        return Err(Fail::new("no end"));
-    };
+    assert!(rt; next_record(&[])?.is_none());
     Ok(())
 }

@@ -1,28 +1,21 @@
 // The reader of trees on examples.
+use algebra::Refusal;
 use trees::reader::read_tree;
 
-// The number of the refusal, or 0 for a grant.
-fn refusal(bytes: &[u8]) -> u8 {
-    match read_tree(bytes) {
-        Ok(_) => 0,
-        Err(refusal) => refusal.code(),
-    }
+// The number of the refusal.
+fn refusal(bytes: &[u8]) -> Option<u8> {
+    read_tree(bytes).err().map(|refusal| refusal.code())
 }
 
 // The tree is granted with that many events and that source text.
 fn gives(bytes: &[u8], events: u8, text: &[u8]) -> bool {
-    match read_tree(bytes) {
-        Ok(tree) => tree.events == events && tree.source.as_bytes() == text,
-        Err(_) => false,
-    }
+    read_tree(bytes).is_ok_and(|tree| tree.events == events && tree.source.as_bytes() == text)
 }
 
-// The length of the source text, or 0 for a refusal.
-fn length(bytes: &[u8]) -> usize {
-    match read_tree(bytes) {
-        Ok(tree) => tree.source.as_bytes().len(),
-        Err(_) => 0,
-    }
+// The length of the source text.
+fn length(bytes: &[u8]) -> Option<usize> {
+    let tree = read_tree(bytes).ok()?;
+    Some(tree.source.as_bytes().len())
 }
 
 #[test]
@@ -56,31 +49,31 @@ fn gates_and_triggers_stand_in_one_another(rt: HostRuntime) {
 
 #[test]
 fn forms_and_counts_are_refused(rt: HostRuntime) {
-    assert!(rt; refusal(b"") == 1);
-    assert!(rt; refusal(b"\x00") == 1);
-    assert!(rt; refusal(b"\x00\x01\x06\x00\x01") == 2);
-    assert!(rt; refusal(b"\x19\x01\x06\x00\x01") == 2);
-    assert!(rt; refusal(b"\x02\x00") == 2);
-    assert!(rt; refusal(b"\x02\x21\x06\x00\x01") == 2);
-    assert!(rt; refusal(b"\x02\x01\x06\x00") == 1);
-    assert!(rt; refusal(b"\x02\x01\x0e\x00\x01") == 1);
-    assert!(rt; refusal(b"\x02\x01\x02\x00") == 1);
-    assert!(rt; refusal(b"\x02\x01\x07\x05\x00\x01") == 1);
-    assert!(rt; refusal(b"\x02\x01\x06\x00\x01\x09") == 1);
+    assert!(rt; refusal(b"") == Some(1));
+    assert!(rt; refusal(b"\x00") == Some(1));
+    assert!(rt; refusal(b"\x00\x01\x06\x00\x01") == Some(2));
+    assert!(rt; refusal(b"\x19\x01\x06\x00\x01") == Some(2));
+    assert!(rt; refusal(b"\x02\x00") == Some(2));
+    assert!(rt; refusal(b"\x02\x21\x06\x00\x01") == Some(2));
+    assert!(rt; refusal(b"\x02\x01\x06\x00") == Some(1));
+    assert!(rt; refusal(b"\x02\x01\x0e\x00\x01") == Some(1));
+    assert!(rt; refusal(b"\x02\x01\x02\x00") == Some(1));
+    assert!(rt; refusal(b"\x02\x01\x07\x05\x00\x01") == Some(1));
+    assert!(rt; refusal(b"\x02\x01\x06\x00\x01\x09") == Some(1));
 }
 
 #[test]
 fn inputs_and_dependents_are_refused(rt: HostRuntime) {
-    assert!(rt; refusal(b"\x02\x01\x06\x00\x02") == 3);
-    assert!(rt; refusal(b"\x02\x01\x06\x00\x40") == 3);
-    assert!(rt; refusal(b"\x02\x02\x07\x04\x00\x01\x06\x00\x40") == 3);
-    assert!(rt; refusal(b"\x02\x01\x07\x04\x00\xc8") == 3);
-    assert!(rt; refusal(b"\x02\x02\x06\x00\x01\x07\x04\x00\x40") == 4);
-    assert!(rt; refusal(b"\x02\x01\x07\x04\x00\x00") == 4);
-    assert!(rt; refusal(b"\x03\x02\x07\x01\x01\x02\x07\x04\x00\x01") == 4);
-    assert!(rt; refusal(b"\x03\x02\x07\x04\x00\x01\x07\x04\x02\x00") == 4);
-    assert!(rt; refusal(b"\x02\x01\x07\x04\x00\x01") == 6);
-    assert!(rt; refusal(b"\x02\x01\x07\x04\x00\x01\x00") == 1);
+    assert!(rt; refusal(b"\x02\x01\x06\x00\x02") == Some(3));
+    assert!(rt; refusal(b"\x02\x01\x06\x00\x40") == Some(3));
+    assert!(rt; refusal(b"\x02\x02\x07\x04\x00\x01\x06\x00\x40") == Some(3));
+    assert!(rt; refusal(b"\x02\x01\x07\x04\x00\xc8") == Some(3));
+    assert!(rt; refusal(b"\x02\x02\x06\x00\x01\x07\x04\x00\x40") == Some(4));
+    assert!(rt; refusal(b"\x02\x01\x07\x04\x00\x00") == Some(4));
+    assert!(rt; refusal(b"\x03\x02\x07\x01\x01\x02\x07\x04\x00\x01") == Some(4));
+    assert!(rt; refusal(b"\x03\x02\x07\x04\x00\x01\x07\x04\x02\x00") == Some(4));
+    assert!(rt; refusal(b"\x02\x01\x07\x04\x00\x01") == Some(6));
+    assert!(rt; refusal(b"\x02\x01\x07\x04\x00\x01\x00") == Some(1));
 }
 
 #[test]
@@ -95,16 +88,16 @@ fn trees_reach_their_limits(rt: HostRuntime) {
     assert!(rt;
         length(
             b"\x01\x08\x06\x00\x00\x06\x40\x40\x06\x41\x41\x06\x42\x42\x06\x43\x43\x06\x44\x44\x06\x45\x45\x06\x46\x46",
-        ) == 511
+        ) == Some(511)
     );
     assert!(rt;
         refusal(
             b"\x01\x09\x06\x00\x00\x06\x40\x40\x06\x41\x41\x06\x42\x42\x06\x43\x43\x06\x44\x44\x06\x45\x45\x06\x46\x46\x06\x47\x00",
-        ) == 5
+        ) == Some(5)
     );
     assert!(rt;
         refusal(
             b"\x02\x09\x06\x00\x00\x06\x40\x40\x06\x41\x41\x06\x42\x42\x06\x43\x43\x06\x44\x44\x06\x45\x45\x06\x46\x46\x07\x04\x47\x01",
-        ) == 5
+        ) == Some(5)
     );
 }

@@ -14,7 +14,7 @@ use Rattle.steps.specs.declared.record.StepRecord.{StepRecord}
 use Rattle.trees.specs.declared.record.Record.{Record}
 use Rattle.trees.specs.declared.record.Record.TheVariants as tree
 use Rattle.trees.specs.Records.{first, second}
-use Rattle.notation.specs.declared.records.Kind.TheVariants.{Joins, Triggers}
+use Rattle.trees.specs.declared.record.Kind.TheVariants.{Joins, Triggers}
 use Rattle.notation.specs.Numbers.{Number}
 use Rattle.notation.specs.Records.{RecordWords, record_words}
 use Rattle.notation.specs.Steps.{NotFirst, WayWords, PlaceWords, TermWords, StepWords, term_word, way_part, place_part, term_part, step_words}

@@ -1,26 +1,23 @@
 -- Lines cut into words.
 -- Assumes nothing.
-use Rattle.std.proofs.Common.{◌≡◌, ℕ, ◌<◌, List, [], ◌∷◌, ◌++◌, map, length, get_or, drop, All, sym, refl, ap, ◌∙◌, subst, inl, inr, append_assoc, append-nil, arith, length-append, Bor}
-use Rattle.std.proofs.lemmas.List.{map-append}
-use Rattle.std.proofs.lemmas.List.Elements.{All-head, All-tail, All-from_get_or}
-use Rattle.notation.specs.Words.{Plain, Words, none, space, last, more, WordAdded, OneList, joined}
+use Rattle.std.proofs.Common.{◌≡◌, ℕ, zero, suc, Bool, true, false, not, cond, eqb, List, [], ◌∷◌, ◌++◌, length, get_or, drop, All, sym, refl, ap, ◌∙◌, subst, append-nil, arith, length-append}
+use Rattle.std.proofs.lemmas.List.Elements.{All-head, All-tail}
+use Rattle.std.proofs.lemmas.Bool.{cond_both, eqb-true, eqb-false}
+use Rattle.std.specs.List.{filter, onto_first, slice_split}
+use Rattle.notation.specs.Words.{Plain, Words, none, space, last, more, OneList, joined}
 
 abbrev Spaceless : List ℕ → Type 0
 Spaceless w = All (λ b. b ≡ 32 → ⊥) w
 
--- by places
-pub spaceless_from : (w : List ℕ) → ((i : ℕ) → i < length w → get_or w i 0 ≡ 32 → ⊥) → Spaceless w
-spaceless_from w h = All-from_get_or (λ b. b ≡ 32 → ⊥) w 0 h
+plain : (w : List ℕ) → Spaceless w → not (eqb (length w) 0) ≡ true → Plain w
+plain [] s h = absurd (cc (h))
+plain (b ∷ w) s h = record { some = omega arith; spaceless = s }
 
 first_of : (b : ℕ) (w : List ℕ) → Spaceless (b ∷ w) → b ≡ 32 → ⊥
 first_of b w s = All-head (λ c. c ≡ 32 → ⊥) b w s
 
 rest_of : (b : ℕ) (w : List ℕ) → Spaceless (b ∷ w) → Spaceless w
 rest_of b w s = All-tail (λ c. c ≡ 32 → ⊥) b w s
-
--- what is left of the line is cut into ws, and the whole into what was done and ws
-abbrev pub Cut : List ℕ → List (List ℕ) → List ℕ → Type 0
-Cut line done left = (ws : List (List ℕ)) → Words left ws → Words line (done ++ ws)
 
 -- a word that ends at a space is the first only of one list
 head_one : (w v xs ys : List ℕ) → Spaceless w → Spaceless v → w ++ (32 ∷ xs) ≡ v ++ (32 ∷ ys) → (w ≡ v) × (xs ≡ ys)
@@ -69,29 +66,65 @@ words_one (more w l ws p f) (more v k vs q g) e =
 pub one_list : (line : List ℕ) → OneList line
 one_list line ws vs f g = words_one f g refl
 
--- THE LOOP
+-- THE PIECES BETWEEN SPACES
 
-pub cut_none : (line : List ℕ) → Cut line [] line
-cut_none line ws f = f
+abbrev pub some_byte : List ℕ → Bool
+some_byte w = not (eqb (length w) 0)
 
--- what stands before a space is a word, or nothing
-pub cut_more : (line : List ℕ) (done done' : List (List ℕ)) (left word rest : List ℕ) → left ≡ word ++ (32 ∷ rest) → Spaceless word → WordAdded word done done' → Cut line done left → Cut line done' rest
-cut_more line done done' left [] rest e s (inl a) c ws f =
-    subst (λ (x : List (List ℕ)). Words line (x ++ ws)) (sym a.1) (c ws (subst (λ (x : List ℕ). Words x ws) (sym e) (space rest ws f)))
-cut_more line done done' left (b ∷ word) rest e s (inl a) c ws f = absurd (omega (arith, a.0))
-cut_more line done done' left word rest e s (inr a) c ws f =
-    subst (Words line) (sym (ap (λ (x : List (List ℕ)). x ++ ws) a.1 ∙ append_assoc done (word ∷ []) ws))
-    (c (word ∷ ws) (subst (λ (x : List ℕ). Words x (word ∷ ws)) (sym e) (more word rest ws (record { some = a.0; spaceless = s }) f)))
+not_false : (b : Bool) → not b ≡ false → b ≡ true
+not_false true h = refl
+not_false false h = sym h
 
--- the last word, or nothing
-pub cut_last : (line : List ℕ) (done done' : List (List ℕ)) (left : List ℕ) → Spaceless left → WordAdded left done done' → Cut line done left → Words line done'
-cut_last line done done' [] s (inl a) c = subst (Words line) (append-nil done ∙ sym a.1) (c [] none)
-cut_last line done done' (b ∷ left) s (inl a) c = absurd (omega (arith, a.0))
-cut_last line done done' left s (inr a) c = subst (Words line) (sym a.1) (c (left ∷ []) (last left (record { some = a.0; spaceless = s })))
+no_byte : (w : List ℕ) → some_byte w ≡ false → w ≡ []
+no_byte [] h = refl
+no_byte (b ∷ w) h = absurd (omega (arith, eqb-true (length (b ∷ w)) 0 (not_false _ h)))
 
--- borrowed words, and one more
-pub words_more : (ws vs : List (Bor (List ℕ))) (w : Bor (List ℕ)) → vs ≡ ws ++ (w ∷ []) → map (λ x. x.now) vs ≡ map (λ x. x.now) ws ++ (w.now ∷ [])
-words_more ws vs w e = ap (map (λ x. x.now)) e ∙ map-append (λ x. x.now) ws (w ∷ [])
+-- each piece has no space, and what stands after it is cut into words
+abbrev Pieces : List ℕ → List (List ℕ) → Type 0
+Pieces line [] = ⊥
+Pieces line (w ∷ []) = Spaceless w × (line ≡ w)
+Pieces line (w ∷ v ∷ ws) = Spaceless w × ((rest : List ℕ) × (line ≡ w ++ (32 ∷ rest)) × Words rest (filter some_byte (v ∷ ws)))
+
+spaceless_none : Spaceless []
+spaceless_none k d h = absurd (omega arith)
+
+spaceless_more : (b : ℕ) (w : List ℕ) → (b ≡ 32 → ⊥) → Spaceless w → Spaceless (b ∷ w)
+spaceless_more b w h s zero d k = h
+spaceless_more b w h s (suc i) d k = s i d (omega arith)
+
+last_word : (w : List ℕ) → Spaceless w → (b : Bool) → some_byte w ≡ b → Words w (cond b (w ∷ []) [])
+last_word w s true e = last w (plain w s e)
+last_word w s false e = subst (λ (x : List ℕ). Words x []) (sym (no_byte w e)) none
+
+more_words : (w rest : List ℕ) (ws : List (List ℕ)) → Spaceless w → Words rest ws → (b : Bool) → some_byte w ≡ b → Words (w ++ (32 ∷ rest)) (cond b (w ∷ ws) ws)
+more_words w rest ws s f true e = more w rest ws (plain w s e) f
+more_words w rest ws s f false e = subst (λ (x : List ℕ). Words (x ++ (32 ∷ rest)) ws) (sym (no_byte w e)) (space rest ws f)
+
+pieces_words : (line : List ℕ) (ws : List (List ℕ)) → Pieces line ws → Words line (filter some_byte ws)
+pieces_words line [] p = absurd p
+pieces_words line (w ∷ []) p = subst (λ (x : List ℕ). Words x (filter some_byte (w ∷ []))) (sym p.1) (last_word w p.0 (some_byte w) refl)
+pieces_words line (w ∷ v ∷ ws) (s, (rest, e, f)) = subst (λ (x : List ℕ). Words x (filter some_byte (w ∷ v ∷ ws))) (sym e) (more_words w rest (filter some_byte (v ∷ ws)) s f (some_byte w) refl)
+
+-- a space before the line, and another byte
+after_space : (line : List ℕ) (ws : List (List ℕ)) → Pieces line ws → Pieces (32 ∷ line) ([] ∷ ws)
+after_space line [] p = absurd p
+after_space line (w ∷ ws) p = (spaceless_none, (line, refl, pieces_words line (w ∷ ws) p))
+
+after_byte : (b : ℕ) (line : List ℕ) (ws : List (List ℕ)) → (b ≡ 32 → ⊥) → Pieces line ws → Pieces (b ∷ line) (onto_first b ws)
+after_byte b line [] h p = absurd p
+after_byte b line (w ∷ []) h p = (spaceless_more b w h p.0, ap (λ (x : List ℕ). b ∷ x) p.1)
+after_byte b line (w ∷ v ∷ ws) h (s, (rest, e, f)) = (spaceless_more b w h s, (rest, ap (λ (x : List ℕ). b ∷ x) e, f))
+
+pieces : (line : List ℕ) → Pieces line (slice_split (λ b. eqb b 32) line)
+pieces [] = (spaceless_none, refl)
+pieces (b ∷ line) =
+    cond_both (eqb b 32) _ _ (Pieces (b ∷ line))
+    (λ h. subst (λ (x : ℕ). Pieces (x ∷ line) ([] ∷ slice_split (λ c. eqb c 32) line)) (sym (eqb-true b 32 h)) (after_space line _ (pieces line)))
+    (λ h. after_byte b line _ (eqb-false b 32 h) (pieces line))
+
+-- the pieces that have a byte are the words
+pub cut : (line : List ℕ) → Words line (filter some_byte (slice_split (λ b. eqb b 32) line))
+cut line = pieces_words line _ (pieces line)
 
 -- JOINED WORDS
 

@@ -1,13 +1,13 @@
 -- What words say a record.
 -- Assumes nothing.
 use Rattle.std.proofs.Common.{◌≡◌, ℕ, cond, eqb, List, [], ◌∷◌, map, length, get_or, sym, refl, ap, ◌∙◌, subst, arith, Bor}
-use Rattle.std.proofs.lemmas.List.{length-map}
 use Rattle.trees.specs.declared.record.Gate.TheVariants.{Or, And, Pand, Before}
 use Rattle.trees.specs.declared.record.Record.{Record}
-use Rattle.notation.specs.declared.records.Kind.{Kind}
-use Rattle.notation.specs.declared.records.Kind.TheVariants.{Joins, Triggers}
+use Rattle.trees.specs.declared.record.Kind.{Kind}
+use Rattle.trees.specs.declared.record.Kind.TheVariants.{Joins, Triggers}
 use Rattle.notation.specs.Inputs.{Names}
-use Rattle.notation.specs.Records.{kind_word, record_of, RecordWords, OneRecord}
+use Rattle.notation.specs.Records.{kind_word, RecordWords, OneRecord}
+use Rattle.trees.specs.Records.{record_of}
 use Rattle.notation.proofs.Naming.{one_name}
 
 -- the kind by the first letter of its word
@@ -52,13 +52,10 @@ module _ (n a b : List ℕ) where
   pub said : (k : Kind) (i j : ℕ) (x : Record) → n ≡ kind_word k → Names a i → Names b j → x ≡ record_of k i j → RecordWords x three
   said k i j x e f g m = record { kind = k; one = a; two = b; first = i; second = j; is = ap (λ (y : List ℕ). y ∷ a ∷ b ∷ []) e; first_named = f; second_named = g; made = m }
 
-pub not_three : (ws : List (Bor (List ℕ))) → (length ws ≡ 3 → ⊥) → (x : Record) → RecordWords x (map (λ x. x.now) ws) → ⊥
-not_three ws h x r = h (sym (length-map ws (λ x. x.now)) ∙ ap length r.is)
-
 -- three borrowed words
-pub three_words : (ws : List (Bor (List ℕ))) (d e f : Bor (List ℕ)) → length ws ≡ 3 → map (λ x. x.now) ws ≡ (get_or ws 0 d).now ∷ (get_or ws 1 e).now ∷ (get_or ws 2 f).now ∷ []
-three_words [] d e f h = absurd (omega arith)
-three_words (p ∷ []) d e f h = absurd (omega arith)
-three_words (p ∷ q ∷ []) d e f h = absurd (omega arith)
-three_words (p ∷ q ∷ r ∷ []) d e f h = refl
-three_words (p ∷ q ∷ r ∷ s ∷ ws) d e f h = absurd (omega arith)
+pub three_words : (ws : List (Bor (List ℕ))) (d : Bor (List ℕ)) → length ws ≡ 3 → map (λ x. x.now) ws ≡ (get_or ws 0 d).now ∷ (get_or ws 1 d).now ∷ (get_or ws 2 d).now ∷ []
+three_words [] d h = absurd (omega arith)
+three_words (p ∷ []) d h = absurd (omega arith)
+three_words (p ∷ q ∷ []) d h = absurd (omega arith)
+three_words (p ∷ q ∷ r ∷ []) d h = refl
+three_words (p ∷ q ∷ r ∷ s ∷ ws) d h = absurd (omega arith)

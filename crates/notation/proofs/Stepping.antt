@@ -1,6 +1,9 @@
 -- What words say a step.
 -- Assumes nothing.
-use Rattle.std.proofs.Common.{◌≡◌, ℕ, ◌-◌, ◌<◌, List, [], ◌∷◌, map, length, get_or, take, drop, Some, None, codes, Option, sym, refl, ap, ◌∙◌, subst, inl, inr, arith, Bor}
+use Rattle.std.proofs.Common.{◌≡◌, ℕ, ◌-◌, ◌<◌, List, [], ◌∷◌, map, length, get_or, take, drop, Some, None, codes, Option, sym, refl, ap, ◌∙◌, subst, inl, inr, arith, Bor, Bool, true, false, eqb, MatchOption}
+use Rattle.std.proofs.lemmas.Bool.{eqb-true, eqb-false}
+use Rattle.std.specs.Bool.{then_some}
+use Rattle.algebra.specs.Rules.{variable_byte}
 use Rattle.std.proofs.lemmas.List.{take_rest}
 use Rattle.algebra.specs.declared.Variable.{Variable}
 use Rattle.algebra.specs.declared.Variable.TheVariants.{X, Y, Z}
@@ -8,7 +11,7 @@ use Rattle.algebra.specs.declared.Way.{Way}
 use Rattle.algebra.specs.declared.Way.TheVariants.{Forward, Backward}
 use Rattle.steps.specs.Records.{Request}
 use Rattle.notation.specs.Numbers.{Number}
-use Rattle.notation.specs.Steps.{WayWords, PlaceWords, TermWords, StepWords, OneStep}
+use Rattle.notation.specs.Steps.{WayWords, PlaceWords, TermWords, StepWords, OneStep, term_word}
 use Rattle.notation.proofs.Naming.{one_number}
 
 -- BORROWED WORDS
@@ -25,6 +28,14 @@ pub two_front : (w : List ℕ) (a b : ℕ) → 1 < length w → get_or w 0 0 ≡
 two_front [] a b h e f = absurd (omega arith)
 two_front (c ∷ []) a b h e f = absurd (omega arith)
 two_front (c ∷ d ∷ w) a b h e f = λ i. e i ∷ f i ∷ sym (take_rest (c ∷ d ∷ w) 2) i
+
+-- a word begins with a letter and an equals sign, or supplies nothing for it
+pub supplied : (v : Variable) (w : List ℕ) (term : Bor (List ℕ)) (byte : ℕ) → byte ≡ variable_byte v → 1 < length w → get_or w 1 0 ≡ 61 → term.now ≡ take (length w - 2) (drop 2 w) → MatchOption (then_some (eqb (get_or w 0 0) byte) term) ((t : List ℕ) → w ≡ term_word v t → ⊥) (λ t. w ≡ term_word v t.now)
+supplied v w term byte e h f r = go (eqb (get_or w 0 0) byte) refl
+  where
+    go : (b : Bool) → eqb (get_or w 0 0) byte ≡ b → MatchOption (then_some b term) ((t : List ℕ) → w ≡ term_word v t → ⊥) (λ t. w ≡ term_word v t.now)
+    go true g = two_front w (variable_byte v) 61 h (eqb-true _ _ g ∙ e) f ∙ ap (λ (t : List ℕ). term_word v t) (sym r)
+    go false g = λ t x. eqb-false _ _ g (ap (λ (y : List ℕ). get_or y 0 0) x ∙ sym e)
 
 -- EACH PART IS SAID IN ONE WAY
 

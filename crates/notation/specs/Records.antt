@@ -5,8 +5,9 @@ use Rattle.trees.specs.declared.record.Gate.{Gate}
 use Rattle.trees.specs.declared.record.Gate.TheVariants as gate
 use Rattle.trees.specs.declared.record.Record.{Record}
 use Rattle.trees.specs.declared.record.Record.TheVariants as tree
-use Rattle.notation.specs.declared.records.Kind.{Kind}
-use Rattle.notation.specs.declared.records.Kind.TheVariants.{Joins, Triggers}
+use Rattle.trees.specs.declared.record.Kind.{Kind}
+use Rattle.trees.specs.declared.record.Kind.TheVariants.{Joins, Triggers}
+use Rattle.trees.specs.Records.{record_of}
 use Rattle.notation.specs.Inputs.{Names, input_word}
 
 abbrev pub gate_word : Gate → List ℕ
@@ -18,10 +19,6 @@ gate_word gate.Before = codes "before"
 abbrev pub kind_word : Kind → List ℕ
 kind_word (Joins g) = gate_word g
 kind_word Triggers = codes "fdep"
-
-abbrev pub record_of : Kind → ℕ → ℕ → Record
-record_of (Joins g) a b = tree.Joins g a b
-record_of Triggers t d = tree.Triggers t d
 
 -- the words are those of the record
 pub record RecordWords (r : Record) (ws : List (List ℕ)) : Type 0 where

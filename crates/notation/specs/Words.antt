@@ -1,6 +1,6 @@
 -- A line and its words, which are parted by spaces.
 -- Assumes nothing.
-use Rattle.std.specs.Prelude.{◌≡◌, ℕ, ◌<◌, ◌⊎◌, List, [], ◌∷◌, ◌++◌, length, All, ◌≢◌}
+use Rattle.std.specs.Prelude.{◌≡◌, ℕ, ◌<◌, List, [], ◌∷◌, ◌++◌, length, All, ◌≢◌}
 
 -- a word has a byte, and no space
 pub record Plain (word : List ℕ) : Type 0 where
@@ -17,10 +17,6 @@ pub data Words : List ℕ → List (List ℕ) → Type 0 where
 -- a line has one list of words only
 abbrev pub OneList : List ℕ → Type 0
 OneList line = (ws vs : List (List ℕ)) → Words line ws → Words line vs → ws ≡ vs
-
--- a word was added to others, or has no byte and was not
-abbrev pub WordAdded : List ℕ → List (List ℕ) → List (List ℕ) → Type 0
-WordAdded w old new = ((length w ≡ 0) × (new ≡ old)) ⊎ ((0 < length w) × (new ≡ old ++ (w ∷ [])))
 
 -- words with a space between each two
 abbrev pub joined : List (List ℕ) → List ℕ

@@ -1,42 +1,30 @@
 // Inputs of a tree's records in words.
-ghost use Rattle.std.specs.Prelude.{◌≡◌, ℕ, ◌+◌, ◌<◌, [], ◌∷◌, IfOk, Some, string_bytes, MatchOption, ◌≢◌};
+ghost use Rattle.std.specs.Prelude.{◌≡◌, ℕ, ◌+◌, ◌<◌, [], ◌∷◌, IfOk, Some, string_bytes, MatchOption};
 ghost use Rattle.notation.specs.Inputs.{Names, OneName, input_word};
 ghost use Rattle.notation.specs.Numbers.{Number};
 
 use crate::numbers::read_byte;
+use algebra::event_of;
 use std::alloc::{AllocError, Global};
 
-// How many events have a letter, and how many inputs are events; the other inputs are gates.
+// How many events have a letter.
 const LETTERS: u8 = 24;
 
-const EVENTS: u8 = 64;
-
-const GATES: u8 = 192;
-
-// The event of a letter.
-fn read_letter(letter: u8) -> Option<u8>
-    ensures { MatchOption result ((i : ℕ) → i < 24 → letter ≢ 97 + i) (λ i. (i < 24) × (letter ≡ 97 + i)) }
-{
-    match letter {
-        b'a'..=b'x' => Some(letter - b'a'),
-        _ => None,
-    }
-}
+// The input of the first gate; those before it are events.
+const FIRST_GATE: u8 = 64;
 
 // The number that a word of digits writes, where it is below a limit.
 fn read_below(digits: &[u8], limit: u8) -> Option<u8>
     ensures { MatchOption result ((n : ℕ) → n < limit → Number digits.now n → ⊥) (λ n. (n < limit) × Number digits.now n) }
 {
-    let number = read_byte(digits)?;
-    if number < limit { Some(number) } else { None }
+    read_byte(digits).filter(|number| *number < limit)
 }
 
 // The input that is the gate of a record.
 fn read_gate(digits: &[u8]) -> Option<u8>
     ensures { MatchOption result ((k : ℕ) → k < 192 → Number digits.now k → ⊥) (λ i. (k : ℕ) × (k < 192) × Number digits.now k × (i ≡ 64 + k)) }
 {
-    let record = read_below(digits, GATES)?;
-    Some(EVENTS + record)
+    FIRST_GATE.checked_add(read_byte(digits)?)
 }
 
 // The input that a word names.
@@ -46,8 +34,8 @@ pub fn read_input(word: &[u8]) -> Option<u8>
     ensures back { (i : ℕ) → i < 256 → word.now ≡ input_word i → result ≡ Some i }
 {
     match word {
-        [letter] => read_letter(*letter),
-        [b'e', digits @ ..] => read_below(digits, EVENTS),
+        [letter] => event_of(*letter),
+        [b'e', digits @ ..] => read_below(digits, FIRST_GATE),
         [b'g', digits @ ..] => read_gate(digits),
         _ => None,
     }
@@ -58,9 +46,8 @@ fn letter_word(heap: Global, event: u8) -> Result<String, AllocError>
     requires { event < 24 }
     ensures { IfOk result (λ w. string_bytes w ≡ (97 + event) ∷ []) }
 {
-    let mut word = String::new(heap);
-    word.push((b'a' + event) as char)?;
-    Ok(word)
+    let letter = char::from(b'a' + event);
+    format!(in heap; "{letter}")
 }
 
 // The word of an input: the letter of an event that has one, or else its number after an e, or that of a record after a g.
@@ -69,10 +56,10 @@ pub fn input_word(heap: Global, input: u8) -> Result<String, AllocError>
 {
     if input < LETTERS {
         letter_word(heap, input)
-    } else if input < EVENTS {
+    } else if input < FIRST_GATE {
         format!(in heap; "e{input}")
     } else {
-        let record = input - EVENTS;
+        let record = input - FIRST_GATE;
         format!(in heap; "g{record}")
     }
 }

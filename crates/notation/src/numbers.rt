@@ -11,20 +11,12 @@ pub(crate) fn read_number(word: &[u8]) -> Option<u16>
     let [b'0'..=b'9', ..] = word else {
         return None;
     };
-    match from_utf8(word) {
-        Ok(text) => text.parse::<u16>().ok(),
-        Err(_) => None,
-    }
+    from_utf8(word).ok()?.parse().ok()
 }
 
 // The number that a word of digits writes, up to 255.
 pub fn read_byte(word: &[u8]) -> Option<u8>
     ensures { MatchOption result ((n : ℕ) → n < 256 → Number word.now n → ⊥) (λ n. (n < 256) × Number word.now n) }
 {
-    let number = read_number(word)?;
-    if number < 256 {
-        Some(number as u8)
-    } else {
-        None
-    }
+    u8::try_from(read_number(word)?).ok()
 }

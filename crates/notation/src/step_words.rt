@@ -1,6 +1,5 @@
 // Steps in words: the rule, and then what differs from a forward step at place 0 with no supplied terms.
 ghost use Rattle.std.specs.Prelude.{◌≡◌, ℕ, ◌<◌, List, [], ◌∷◌, ◌++◌, map, IfOk, MatchOption, OnOk, ◌≢◌};
-ghost use Rattle.algebra.specs.Rules.{variable_byte};
 ghost use Rattle.steps.specs.Readings.{bytes_of, request_of};
 ghost use Rattle.steps.specs.Records.{Request};
 ghost use Rattle.notation.specs.Numbers.{Number};
@@ -13,51 +12,27 @@ use std::alloc::{AllocError, Global};
 use steps::binding::Binding;
 use steps::record::StepRecord;
 
-// The first word, and the words after it.
-fn next_word<'a, 'b>(words: &'b [&'a str]) -> Option<(&'a str, &'b [&'a str])>
-    ensures { MatchOption result (map (λ x. x.now) words.now ≡ []) (λ p. map (λ x. x.now) words.now ≡ p.0.now ∷ map (λ x. x.now) p.1.now) }
-{
-    match words {
-        [first, rest @ ..] => Some((*first, rest)),
-        [] => None,
-    }
-}
-
 // The way of a step, and the words after it.
 fn read_way<'a, 'b>(words: &'b [&'a str]) -> (Way, &'b [&'a str])
     ensures { WayWords result.0 (map (λ x. x.now) words.now) (map (λ x. x.now) result.1.now) }
 {
-    if let Some((word, rest)) = next_word(words) {
-        if word == "back" {
-            return (Way::Backward, rest);
-        }
+    match words {
+        ["back", rest @ ..] => (Way::Backward, rest),
+        _ => (Way::Forward, words),
     }
-    (Way::Forward, words)
 }
 
 // The place of a step, and the words after it.
 fn read_place<'a, 'b>(words: &'b [&'a str]) -> Option<(usize, &'b [&'a str])>
     ensures { MatchOption result ((p : ℕ) (rest : List (List ℕ)) → PlaceWords p (map (λ x. x.now) words.now) rest → ⊥) (λ x. PlaceWords x.0 (map (λ x. x.now) words.now) (map (λ x. x.now) x.1.now)) }
 {
-    let Some((word, rest)) = next_word(words) else {
-        return Some((0, words));
-    };
-    if word != "at" {
-        return Some((0, words));
-    }
-    let (digits, after) = next_word(rest)?;
-    let place = read_number(digits.as_bytes())?;
-    Some((usize::from(place), after))
-}
-
-// The byte of a letter.
-fn letter_byte(letter: Variable) -> u8
-    ensures { result ≡ variable_byte letter }
-{
-    match letter {
-        Variable::X => b'X',
-        Variable::Y => b'Y',
-        Variable::Z => b'Z',
+    match words {
+        ["at", digits, rest @ ..] => {
+            let place = read_number(digits.as_bytes())?;
+            Some((usize::from(place), rest))
+        }
+        ["at"] => None,
+        _ => Some((0, words)),
     }
 }
 
@@ -68,23 +43,20 @@ fn read_supply<'a>(letter: Variable, word: &'a [u8]) -> Option<&'a [u8]>
     let [name, b'=', term @ ..] = word else {
         return None;
     };
-    if *name == letter_byte(letter) {
-        Some(term)
-    } else {
-        None
-    }
+    (*name == u8::from(letter)).then_some(term)
 }
 
 // The term for a letter, and the words after it.
 fn read_term<'a, 'b>(letter: Variable, words: &'b [&'a str]) -> (Option<&'a [u8]>, &'b [&'a str])
     ensures { TermWords letter (bytes_of result.0) (map (λ x. x.now) words.now) (map (λ x. x.now) result.1.now) }
 {
-    if let Some((word, rest)) = next_word(words) {
-        if let Some(term) = read_supply(letter, word.as_bytes()) {
-            return (Some(term), rest);
-        }
+    let [word, rest @ ..] = words else {
+        return (None, words);
+    };
+    match read_supply(letter, word.as_bytes()) {
+        Some(term) => (Some(term), rest),
+        None => (None, words),
     }
-    (None, words)
 }
 
 // The step that words say. The words that are written for a step are read back as it.
@@ -93,10 +65,11 @@ pub fn read_step<'a>(words: &[&'a str]) -> Option<StepRecord<'a>>
     ensures one { OneStep (map (λ x. x.now) words.now) }
     ensures back { (q : Request) → q.rule < 256 → q.place < 65536 → map (λ x. x.now) words.now ≡ step_words q → MatchOption result ⊥ (λ s. request_of s ≡ q) }
 {
-    let (number, after_rule) = next_word(words)?;
+    let (number, after_rule) = words.split_first()?;
     let rule = read_byte(number.as_bytes())?;
     let (way, after_way) = read_way(after_rule);
     let (place, after_place) = read_place(after_way)?;
+    // Each term is read from the words that the one before left, and goes to a place of its own: three lines say it plainest.
     let (x, after_x) = read_term(Variable::X, after_place);
     let (y, after_y) = read_term(Variable::Y, after_x);
     let (z, after_z) = read_term(Variable::Z, after_y);
@@ -115,8 +88,8 @@ pub fn read_step<'a>(words: &[&'a str]) -> Option<StepRecord<'a>>
 fn add_way(line: &mut Vec<u8>, way: Way) -> Result<(), AllocError>
     ensures { OnOk result (line.new.items ≡ line.old.items ++ spaced (way_part way)) }
 {
-    if let Way::Backward = way {
-        line.extend_from_slice(" back".as_bytes())?;
+    if way == Way::Backward {
+        line.extend_from_slice(b" back")?;
     }
     Ok(())
 }
@@ -136,7 +109,7 @@ fn add_place(heap: Global, line: &mut Vec<u8>, place: usize) -> Result<(), Alloc
 fn add_supply(line: &mut Vec<u8>, letter: Variable, term: &[u8]) -> Result<(), AllocError>
     ensures { OnOk result (line.new.items ≡ line.old.items ++ spaced (term_word letter term.now ∷ [])) }
 {
-    line.extend_from_slice(&[b' ', letter_byte(letter), b'='])?;
+    line.extend_from_slice(&[b' ', u8::from(letter), b'='])?;
     line.extend_from_slice(term)?;
     Ok(())
 }
@@ -156,12 +129,12 @@ pub fn step_line(heap: Global, said: &StepRecord<'_>) -> Result<Vec<u8>, AllocEr
     ensures { IfOk result (λ l. l.items ≡ joined (step_words (request_of said.now))) }
 {
     let rule = said.rule;
-    let number = format!(in heap; "{rule}")?;
-    let mut line = Vec::from_slice(heap, number.as_bytes())?;
+    let mut line = format!(in heap; "{rule}")?.into_bytes();
     add_way(&mut line, said.way)?;
     add_place(heap, &mut line, said.place)?;
-    add_term(&mut line, Variable::X, said.supplied.x)?;
-    add_term(&mut line, Variable::Y, said.supplied.y)?;
-    add_term(&mut line, Variable::Z, said.supplied.z)?;
+    let Binding { x, y, z } = said.supplied;
+    for (letter, term) in [(Variable::X, x), (Variable::Y, y), (Variable::Z, z)] {
+        add_term(&mut line, letter, term)?;
+    }
     Ok(line)
 }

@@ -1,19 +1,9 @@
 // A line cut into its words.
-ghost use Rattle.std.specs.Prelude.{◌≡◌, ℕ, List, map, IfOk, All, OnOk};
+ghost use Rattle.std.specs.Prelude.{◌≡◌, ℕ, List, map, IfOk, All};
 ghost use Rattle.notation.specs.Plainly.{RecordsPlain, StepsPlain};
-ghost use Rattle.notation.specs.Words.{OneList, Plain, WordAdded, Words, joined};
+ghost use Rattle.notation.specs.Words.{OneList, Plain, Words, joined};
 
 use std::alloc::{AllocError, Global};
-
-// Adds a word, unless it has no byte.
-fn add_word<'a>(words: &mut Vec<&'a str>, word: &'a str) -> Result<(), AllocError>
-    ensures { OnOk result (WordAdded word.now (map (λ x. x.now) words.old.items) (map (λ x. x.now) words.new.items)) }
-{
-    if !word.is_empty() {
-        words.push(word)?;
-    }
-    Ok(())
-}
 
 // The words of a line, which are parted by spaces. Words with a space between each two are read back as the same.
 pub fn split_words<'a>(heap: Global, line: &'a str) -> Result<Vec<&'a str>, AllocError>
@@ -21,14 +11,9 @@ pub fn split_words<'a>(heap: Global, line: &'a str) -> Result<Vec<&'a str>, Allo
     ensures one { OneList line.now }
     ensures back { IfOk result (λ v. (ws : List (List ℕ)) → All Plain ws → line.now ≡ joined ws → map (λ x. x.now) v.items ≡ ws) }
 {
-    let mut words = Vec::new(heap);
-    let mut left = line;
-    while let Some((word, rest)) = left.split_once(' ') {
-        add_word(&mut words, word)?;
-        left = rest;
-    }
-    add_word(&mut words, left)?;
-    Ok(words)
+    line.split(' ')
+        .filter(|word| !word.is_empty())
+        .collect(heap)
 }
 
 // The words that are written for a record have no spaces, and neither have those for a step, where its terms have none.

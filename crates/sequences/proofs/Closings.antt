@@ -1,9 +1,9 @@
 -- Each way that a closing can go.
 -- Assumes nothing.
-use Rattle.std.proofs.Common.{◌≡◌, ℕ, suc, ◌+◌, ◌<◌, ◌≤◌, Bool, true, false, List, [], ◌∷◌, ◌++◌, length, get_or, take, Ok, Err, All, Result, sym, refl, ap, ◌∙◌, subst, inl, inr, arith, length-append}
+use Rattle.std.proofs.Common.{◌≡◌, ℕ, suc, ◌+◌, ◌<◌, ◌≤◌, Bool, true, false, List, [], ◌∷◌, ◌++◌, length, get_or, take, Ok, Err, All, Any, Result, sym, refl, ap, ◌∙◌, subst, inl, inr, arith, length-append}
 use mathlib.Core.Option.{Option, none, some}
-use Rattle.std.proofs.lemmas.List.{length-map, map-append}
-use Rattle.std.proofs.lemmas.List.Elements.{All-nil, All-cons, All-head, All-tail, All-append, All-get_or, All-from_get_or}
+use Rattle.std.proofs.lemmas.List.{get_or_default, length-map, map-append}
+use Rattle.std.proofs.lemmas.List.Elements.{All-nil, All-cons, All-head, All-tail, All-append, All-map, All-weaker}
 use Rattle.algebra.specs.Kinds.{Kind, Same}
 use Rattle.algebra.specs.Refusals.{Refused, Granted}
 use Rattle.algebra.specs.Terms.{Term, never}
@@ -17,7 +17,7 @@ use Rattle.sequences.specs.Lines.{line}
 use Rattle.sequences.specs.Rows.{absent, blank, padded, row_with}
 use Rattle.sequences.specs.Scans.{State, Keeps, is_end, run, start}
 use Rattle.sequences.specs.Sequences.{rows_of, sum_of, Summed, sequence, plus, ClosesTo, nothing, sum, TextCloses, rows_with}
-use Rattle.sequences.specs.Walks.{Impossible, SomeImpossible, Sound}
+use Rattle.sequences.specs.Walks.{Impossible, Sound}
 use Rattle.sequences.specs.declared.row.Factor.{Factor}
 use Rattle.sequences.specs.declared.row.Row.{Row}
 use Rattle.sequences.specs.declared.refusals.CloseRefusal.{CloseRefusal}
@@ -26,7 +26,7 @@ use Rattle.sequences.specs.declared.scan.Reading.{Reading}
 use Rattle.sequences.specs.declared.scan.Wants.TheVariants.{End, Nothing}
 use Rattle.sequences.proofs.Entered.{blank_sound}
 use Rattle.sequences.proofs.Fit.{lines_fit}
-use Rattle.sequences.proofs.Padded.{padded_blank, padded_at, padded_front}
+use Rattle.sequences.proofs.Padded.{padded_blank, padded_front}
 use Rattle.sequences.proofs.RowDates.{never_happens}
 use Rattle.sequences.proofs.Scanned.{scans_sums, scans_none}
 use Rattle.sequences.proofs.Sums.{closes_among, closes_rows, sequence_row, sum_closes, sum_rows}
@@ -39,17 +39,22 @@ one_rows bs x y a b =
     let t = same_term a.term b.term (sym a.written ∙ b.written) in
     some_same (rows_with x) (rows_with y) (sym (closes_rows a.closes) ∙ ap rows_of t ∙ closes_rows b.closes)
 
-map_length : (x : List (List Factor)) → length (rows_with x) ≡ length x
+pub map_length : (x : List (List Factor)) → length (rows_with x) ≡ length x
 map_length x = length-map x row_with
 
 one_count : (bs : List ℕ) (x y : List (List Factor)) → TextCloses bs x → TextCloses bs y → length x ≡ length y
 one_count bs x y a b = sym (map_length x) ∙ ap length (one_rows bs x y a b) ∙ map_length y
 
+-- not of each where of one
+any_all : {X : Type 0} (P : X → Type 0) (xs : List X) → Any P xs → All (λ x. P x → ⊥) xs → ⊥
+any_all P xs s a = a s.0 s.1 s.2 (subst P (sym s.3) s.4)
+
+pub none_all : {X : Type 0} (P : X → Type 0) (xs : List X) → (Any P xs → ⊥) → All (λ x. P x → ⊥) xs
+none_all P xs n k d l h = n (k, get_or xs k d, l, get_or_default xs k _ d l, h)
+
 -- what holds of each row holds of the row of each sequence
 pub all_rows : (P : Row → Type 0) (x : List (List Factor)) → All (λ fs. P (row_with fs)) x → All P (rows_with x)
-all_rows P [] h = All-nil P
-all_rows P (fs ∷ x) h =
-    All-cons P (row_with fs) (rows_with x) (All-head (λ gs. P (row_with gs)) fs x h) (all_rows P x (All-tail (λ gs. P (row_with gs)) fs x h))
+all_rows P x h = All-map P row_with x h
 
 rows_all : (P : Row → Type 0) (x : List (List Factor)) → All P (rows_with x) → All (λ fs. P (row_with fs)) x
 rows_all P [] h = All-nil (λ gs. P (row_with gs))
@@ -63,10 +68,8 @@ pub record Proper (n : ℕ) (r : Row) : Type 0 where
   pub short : length (line r) ≤ n + 1
 
 longer : (m n : ℕ) (rs : List Row) → m ≤ n → All (Proper m) rs → All (Proper n) rs
-longer m n [] h a = All-nil (Proper n)
-longer m n (r ∷ rs) h a =
-    let p = All-head (Proper m) r rs a in
-    All-cons (Proper n) r rs (record { sound = p.sound; counted = p.counted; short = omega (arith, p.short) }) (longer m n rs h (All-tail (Proper m) r rs a))
+longer m n rs h a =
+    All-weaker (Proper m) (Proper n) (λ r p. record { sound = p.sound; counted = p.counted; short = omega (arith, p.short) }) rs a
 
 sum_proper : {t : Term ℕ} {x : List (List Factor)} → Summed t x → All (Proper (length (text_of t))) (rows_with x)
 sum_proper (sequence {t = t} {fs = fs} h) =
@@ -111,10 +114,9 @@ module _ (bs : List ℕ) where
     few : length x ≤ 64 → (y : List (List Factor)) → TextCloses bs y → length y ≤ 64
     few h y d = omega (arith, one_count bs x y c d)
 
-    pub one_impossible : length x ≤ 64 → SomeImpossible (rows_with x) (length x) → Refused close_code (CloseAsks bs) ImpossibleSequence
+    pub one_impossible : length x ≤ 64 → Any Impossible (rows_with x) → Refused close_code (CloseAsks bs) ImpossibleSequence
     one_impossible h s = record {
-      fails = λ f.
-          All-get_or (λ r. Impossible r → ⊥) (rows_with x) s.at absent (omega (arith, s.low, map_length x)) (all_rows (λ r. Impossible r → ⊥) x (f x c)) s.impossible;
+      fails = λ f. any_all Impossible (rows_with x) s (all_rows (λ r. Impossible r → ⊥) x (f x c));
       lower = lower;
     }
       where
@@ -137,11 +139,6 @@ sum_text bs s =
     record { whole = record { term = c.term; written = c.written; letters = closes_among c.closes }; short = c.short }
 
 -- the text N
-pub never_text : (bs : List ℕ) → length bs ≡ 1 → get_or bs 0 0 ≡ never_byte → bs ≡ never_byte ∷ []
-never_text [] h e = absurd (omega arith)
-never_text (b ∷ []) h e = ap (λ (c : ℕ). c ∷ []) e
-never_text (b ∷ c ∷ bs) h e = absurd (omega arith)
-
 pub never_closes : (bs : List ℕ) → bs ≡ never_byte ∷ [] → TextCloses bs []
 never_closes bs e = record { term = never; written = e; short = omega (arith, ap length e); closes = nothing }
 
@@ -194,23 +191,8 @@ module _ (bs : List ℕ) (whole : IsText bs) (reading : Reading) (rows : List Ro
                 k.kept ∙ ap (λ (st : State). padded 64 (st.done ++ (st.row ∷ []))) z ∙ padded_blank 64 rs ∙ ap (padded 64) f.rows;
           }
 
--- the rows of a text by their places
+-- the first rows that were scanned
 module _ (bs : List ℕ) (x : List (List Factor)) (c : TextCloses bs x) (h : length x ≤ 64) where
-  pub row_at_lem : (k : ℕ) → k < length x → get_or (padded 64 (rows_with x)) k absent ≡ get_or (rows_with x) k absent
-  row_at_lem k l = padded_at 64 (rows_with x) k absent (omega (arith, map_length x)) (omega (arith, map_length x))
-
-  pub proper_at : (k : ℕ) → k < length x → Proper 511 (get_or (padded 64 (rows_with x)) k absent)
-  proper_at k l =
-      subst (Proper 511) (sym (row_at_lem k l)) (All-get_or (Proper 511) (rows_with x) k absent (omega (arith, map_length x)) (text_proper bs x c))
-
-  pub possible_all : ((k : ℕ) → k < length x → Impossible (get_or (padded 64 (rows_with x)) k absent) → ⊥) → All (λ r. Impossible r → ⊥) (rows_with x)
-  possible_all f =
-      All-from_get_or (λ r. Impossible r → ⊥) (rows_with x) absent
-      (λ k l. subst (λ (r : Row). Impossible r → ⊥) (row_at_lem k (omega (arith, map_length x))) (f k (omega (arith, map_length x))))
-
-  pub impossible_at : SomeImpossible (padded 64 (rows_with x)) (length x) → SomeImpossible (rows_with x) (length x)
-  impossible_at s = record { at = s.at; low = s.low; impossible = subst Impossible (row_at_lem s.at s.low) s.impossible }
-
   pub front_rows : (rows : List Row) (len : ℕ) → rows ≡ padded 64 (rows_with x) → len ≡ length x → take len rows ≡ rows_with x
   front_rows rows len e n =
       ap (take len) e ∙ ap (λ (m : ℕ). take m (padded 64 (rows_with x))) (n ∙ sym (map_length x)) ∙ padded_front 64 (rows_with x) (omega (arith, map_length x))
@@ -222,39 +204,43 @@ keeps_date K d bs x c =
     (table_keeps K c.term (rows_with x) (closes_rows c.closes) d)
 
 -- refused as impossible exactly where a sequence happens under no dating by ticks
-some_impossible : (rs : List Row) → All Sound rs → (All (λ r. Impossible r → ⊥) rs → ⊥) → SomeImpossible rs (length rs)
+some_impossible : (rs : List Row) → All Sound rs → (All (λ r. Impossible r → ⊥) rs → ⊥) → Any Impossible rs
 some_impossible [] s f = absurd (f (All-nil (λ r. Impossible r → ⊥)))
 some_impossible (r ∷ rs) s f =
     elim (decided r (All-head Sound r rs s)) [
-      | inl i ↦ record { at = 0; low = omega arith; impossible = i }
-      | inr n ↦ let k = some_impossible rs (All-tail Sound r rs s) (λ a. f (All-cons (λ q. Impossible q → ⊥) r rs n a)) in record { at = suc k.at; low = omega (arith, k.low); impossible = k.impossible }
+      | inl i ↦ (0, r, omega arith, refl, i)
+      | inr n ↦ let k = some_impossible rs (All-tail Sound r rs s) (λ a. f (All-cons (λ q. Impossible q → ⊥) r rs n a)) in (suc k.0, k.1, omega (arith, k.2), k.3, k.4)
     ]
 
-all_sound : (n : ℕ) (rs : List Row) → All (Proper n) rs → All Sound rs
-all_sound n [] a = All-nil Sound
-all_sound n (r ∷ rs) a = All-cons Sound r rs (All-head (Proper n) r rs a).sound (all_sound n rs (All-tail (Proper n) r rs a))
+pub all_sound : (rs : List Row) → All (Proper 511) rs → All Sound rs
+all_sound rs a = All-weaker (Proper 511) Sound (λ r p. p.sound) rs a
 
 refused_some : {A : Type 0} (Given : A → Type 0) (bs : List ℕ) (x : List (List Factor)) → TextCloses bs x → (r : Result A CloseRefusal) → Closed bs Given r
-    → r ≡ Err ImpossibleSequence → SomeImpossible (rows_with x) (length (rows_with x))
+    → r ≡ Err ImpossibleSequence → Any Impossible (rows_with x)
 refused_some Given bs x c r a e =
     let f : Refused close_code (CloseAsks bs) ImpossibleSequence = subst (Closed bs Given) e a in
-    some_impossible (rows_with x) (all_sound 511 (rows_with x) (text_proper bs x c))
+    some_impossible (rows_with x) (all_sound (rows_with x) (text_proper bs x c))
     (λ b. f.fails (λ y d. rows_all (λ r. Impossible r → ⊥) y (subst (All (λ r. Impossible r → ⊥)) (one_rows bs x y c d) b)))
 
-module _ {A : Type 0} (Given : A → Type 0) (bs : List ℕ) (x : List (List Factor)) (c : TextCloses bs x) (h : length x ≤ 64) where
-  never_of : SomeImpossible (rows_with x) (length (rows_with x)) → SomeNever (rows_with x)
-  never_of s =
-      let p = All-get_or (Proper 511) (rows_with x) s.at absent s.low (text_proper bs x c) in
-      record { at = s.at; low = s.low; never = (impossible_by_ticks (get_or (rows_with x) s.at absent) p.sound p.counted).0 s.impossible }
+found_at : (rs : List Row) (s : Any Impossible rs) → Impossible (get_or rs s.0 absent)
+found_at rs s = subst Impossible (sym s.3 ∙ get_or_default rs s.0 s.1 absent s.2) s.4
 
-  of_never : SomeNever (rows_with x) → SomeImpossible (rows_with x) (length x)
+module _ {A : Type 0} (Given : A → Type 0) (bs : List ℕ) (x : List (List Factor)) (c : TextCloses bs x) (h : length x ≤ 64) where
+  never_of : Any Impossible (rows_with x) → SomeNever (rows_with x)
+  never_of s =
+      let i = found_at (rows_with x) s in
+      let p = text_proper bs x c s.0 absent s.2 in
+      record { at = s.0; low = s.2; never = (impossible_by_ticks (get_or (rows_with x) s.0 absent) p.sound p.counted).0 i }
+
+  of_never : SomeNever (rows_with x) → Any Impossible (rows_with x)
   of_never s =
-      let p = All-get_or (Proper 511) (rows_with x) s.at absent s.low (text_proper bs x c) in
-      record {
-        at = s.at;
-        low = omega (arith, s.low, map_length x);
-        impossible = (impossible_by_ticks (get_or (rows_with x) s.at absent) p.sound p.counted).1 s.never;
-      }
+      let p = text_proper bs x c s.at absent s.low in (
+        s.at,
+        get_or (rows_with x) s.at absent,
+        s.low,
+        get_or_default (rows_with x) s.at _ absent s.low,
+        (impossible_by_ticks (get_or (rows_with x) s.at absent) p.sound p.counted).1 s.never,
+      )
 
   refused_never : (r : Result A CloseRefusal) → Closed bs Given r → r ≡ Err ImpossibleSequence → SomeNever (rows_with x)
   refused_never r a e = never_of (refused_some Given bs x c r a e)
@@ -272,5 +258,5 @@ refused_exactly Given bs r a x c h = (refused_never Given bs x c h r a, never_re
 pub refused_nowhere : {A : Type 0} (Given : A → Type 0) (bs : List ℕ) (r : Result A CloseRefusal) → Closed bs Given r → RefusedNowhere bs r
 refused_nowhere Given bs r a x c e =
     let s = refused_some Given bs x c r a e in
-    let p = All-get_or (Proper 511) (rows_with x) s.at absent s.low (text_proper bs x c) in
-    record { at = s.at; low = s.low; never = λ K d. never_happens K (get_or (rows_with x) s.at absent) p.sound s.impossible d }
+    let p = text_proper bs x c s.0 absent s.2 in
+    record { at = s.0; low = s.2; never = λ K d. never_happens K (get_or (rows_with x) s.0 absent) p.sound (found_at (rows_with x) s) d }

@@ -1,81 +1,108 @@
--- One turn of each loop over the dates of a row.
+-- Whether a set has a letter, the latest date, and the date at a place.
 -- Assumes nothing.
-use Rattle.std.proofs.Common.{◌≡◌, ℕ, suc, ◌+◌, ◌<◌, ◌≤◌, Bool, true, false, cond, not, ◌&&◌, T, eqb, List, length, get_or, take, drop, None, sym, refl, ap, ◌∙◌, subst, ap₂, inl, inr, add-one, arith, eqb→eq, T_not, drop-cons}
+use Rattle.std.proofs.Common.{◌≡◌, ℕ, zero, suc, ◌+◌, ◌-◌, ◌/◌, ◌%◌, ◌^◌, ◌<◌, ◌≤◌, Bool, true, false, cond, not, T, eqb, List, [], ◌∷◌, ◌++◌, map, Some, Option, bit_and, sym, refl, ap, ◌∙◌, subst, inl, inr, add-one, zero-add, arith, eqb→eq, T_not}
+use mathlib.Core.List.{map-id, map-append, append-nil}
+use native.Mathlib.Nat.{div-eq_of_lt}
+use Rattle.std.specs.List.{filter, range_with_len, reduce}
+use Rattle.std.proofs.Math.Pow.{mod-mod-pow}
+use Rattle.std.proofs.lemmas.Nat.{and_mask, field_of, pow_below}
+use Rattle.std.proofs.lemmas.List.FromFn.{filter_of_map_range_with_len_more}
+use Rattle.std.proofs.lemmas.List.Sums.{fold-append}
 use lib.Dec.{not_T}
-use lib.Seq.{drop-length}
-use Rattle.std.proofs.lemmas.List.{get_or_default, get_or-take}
-use Rattle.std.proofs.lemmas.Bool.{cases_Bool}
+use Rattle.std.proofs.lemmas.Bool.{cases_Bool, cases_lt, ne_eqb}
 use Rattle.algebra.specs.Kinds.{Kind}
-use Rattle.algebra.specs.Terms.{dating_of, joined}
-use Rattle.algebra.specs.declared.Operator.TheVariants.{Or}
+use Rattle.algebra.specs.Terms.{joined}
+use Rattle.algebra.specs.declared.Operator.TheVariants.{And}
 use Rattle.algebra.proofs.Tests.{bool_ext}
-use Rattle.sequences.specs.Dates.{later, latest, row_date, table_date}
+use Rattle.sequences.specs.Dates.{later, latest}
 use Rattle.sequences.specs.Masks.{has}
-use Rattle.sequences.specs.Rows.{absent}
-use Rattle.sequences.specs.Walks.{all, any}
-use Rattle.sequences.specs.declared.row.Row.{Row}
+use Rattle.sequences.specs.Walks.{any}
 use Rattle.sequences.proofs.Bits.{has_none}
 use Rattle.sequences.proofs.Tell.{has_ext}
-use Rattle.sequences.proofs.Tests.{all_out, any_in, any_out, is_T, not_T_is, T_not_false}
+use Rattle.sequences.proofs.Tests.{any_in, any_out, is_T, not_T_is, T_not_false}
 
--- a set with a letter is not 0
-pub set_some : (m : ℕ) → ((w : ℕ) → T (has m w) → w < 24) → not (eqb m 0) ≡ any 24 (λ w. has m w)
-set_some m low = bool_ext (not (eqb m 0)) (any 24 (λ w. has m w)) fore back
+-- the bits of the 24 letters alone
+abbrev low : ℕ → ℕ
+low m = bit_and m 16777215
+
+low_mod : (m : ℕ) → low m ≡ m % 2 ^ 24
+low_mod m = and_mask m 24
+
+low_has : (m w : ℕ) → w < 24 → has (low m) w ≡ has m w
+unfolding has
+low_has m w h =
+    let j : ℕ = 23 - w in
+    let e : 24 ≡ (j + 1) + w = omega arith in
+    ap (λ (n : ℕ). eqb (n / 2 ^ w % 2) 1) (low_mod m ∙ ap (λ (k : ℕ). m % 2 ^ k) e)
+    ∙ ap (λ (n : ℕ). eqb (n % 2) 1) (field_of m (j + 1) w) ∙ ap (λ (n : ℕ). eqb n 1) (mod-mod-pow (m / 2 ^ w) j 1)
+
+pow_grows : (w : ℕ) → 24 ≤ w → 2 ^ 24 ≤ 2 ^ w
+pow_grows w h =
+    elim (cases_lt 24 w) [
+      | inl l ↦ omega (arith, pow_below 24 w l)
+      | inr g ↦ let e : w ≡ 24 = omega arith in subst (λ (n : ℕ). 2 ^ 24 ≤ 2 ^ n) (sym e) (omega arith)
+    ]
+
+low_past : (m w : ℕ) → T (has (low m) w) → w < 24
+unfolding has
+low_past m w t =
+    elim (cases_lt w 24) [
+      | inl h ↦ h
+      | inr h ↦
+          let small : low m < 2 ^ w = omega (arith, low_mod m, pow_grows w h) in
+          let z : low m / 2 ^ w ≡ 0 = div-eq_of_lt small in
+          absurd (T_not_false (eqb (low m / 2 ^ w % 2) 1) (ne_eqb _ 1 (λ q. omega arith)) t)
+    ]
+
+-- whether one of the 24 letters is in a set
+pub set_some : (m : ℕ) → not (eqb (low m) 0) ≡ any 24 (λ w. has m w)
+set_some m = bool_ext (not (eqb (low m) 0)) (any 24 (λ w. has m w)) fore back
   where
-    fore : T (not (eqb m 0)) → T (any 24 (λ w. has m w))
+    fore : T (not (eqb (low m) 0)) → T (any 24 (λ w. has m w))
     fore n =
         elim (cases_Bool (any 24 (λ w. has m w))) [
           | inl e ↦ is_T _ e
           | inr e ↦
-              let lacks : (w : ℕ) → has m w ≡ has 0 w =
-              λ w. not_T_is (has m w) (λ t. T_not_false _ e (any_in 24 (λ w. has m w) w (low w t) t)) ∙ sym (has_none w) in
-              let z : m ≡ 0 = has_ext m m 0 (omega arith) (omega arith) lacks in
-              absurd (T_not (eqb m 0) n (subst (λ (k : ℕ). T (eqb k 0)) (sym z) tt))
+              let lacks : (w : ℕ) → has (low m) w ≡ has 0 w =
+              λ w. not_T_is (has (low m) w)
+              (λ t. let h = low_past m w t in T_not_false _ e (any_in 24 (λ w. has m w) w h (subst T (low_has m w h) t)))
+              ∙ sym (has_none w) in
+              let z : low m ≡ 0 = has_ext (low m) (low m) 0 (omega arith) (omega arith) lacks in
+              absurd (T_not (eqb (low m) 0) n (subst (λ (k : ℕ). T (eqb k 0)) (sym z) tt))
         ]
 
-    back : T (any 24 (λ w. has m w)) → T (not (eqb m 0))
+    back : T (any 24 (λ w. has m w)) → T (not (eqb (low m) 0))
     back t =
         let k = any_out 24 (λ w. has m w) t in
-        not_T (eqb m 0) (λ q. T_not_false _ (has_none k.0) (subst (λ (n : ℕ). T (has n k.0)) (eqb→eq m 0 q) k.2))
+        let there : T (has (low m) k.0) = subst T (sym (low_has m k.0 k.1)) k.2 in
+        not_T (eqb (low m) 0) (λ q. T_not_false _ (has_none k.0) (subst (λ (n : ℕ). T (has n k.0)) (eqb→eq (low m) 0 q) there))
 
-pub all_none : (p : ℕ → Bool) → all 0 p ≡ true
-unfolding all
-all_none p = refl
+-- the latest date, as what `reduce` makes of the dates of the letters that p names
+module _ {D : Type 0} (K : Kind D) (d : ℕ → D) (p : ℕ → Bool) where
+  abbrev last : List D → Option D
+  last = reduce (joined K And)
 
-pub all_next : (p : ℕ → Bool) (n : ℕ) → all n p ≡ true → p n ≡ true → all (n + 1) p ≡ true
-unfolding all
-all_next p n e f = ap (λ (m : ℕ). all m p) (add-one n) ∙ ap₂ ◌&&◌ f e
+  abbrev dates : ℕ → List D
+  dates n = map d (filter p (map (λ k. k) (range_with_len 0 n)))
 
-pub all_fails : (n : ℕ) (p : ℕ → Bool) (k : ℕ) → k < n → p k ≡ false → false ≡ all n p
-all_fails n p k h e = sym (not_T_is (all n p) (λ t. T_not_false _ e (all_out n p t k h)))
+  last_more : (xs : List D) (y : D) → last (xs ++ y ∷ []) ≡ later K (last xs) y
+  last_more [] y = refl
+  last_more (x ∷ xs) y = ap Some (fold-append (joined K And) x xs (y ∷ []))
 
--- where the loop has passed them all
-pub all_end : (p : ℕ → Bool) (n : ℕ) → n ≤ 24 → 24 ≤ n → all n p ≡ true → true ≡ all 24 p
-all_end p n h l e = sym (subst (λ (m : ℕ). all m p ≡ true) (omega arith) e)
+  dates_more : (n : ℕ) → dates (suc n) ≡ dates n ++ map d (cond (p n) (n ∷ []) [])
+  dates_more n =
+      ap dates (sym (add-one n)) ∙ ap (map d) (filter_of_map_range_with_len_more p (λ k. k) 0 n n (zero-add n))
+      ∙ map-append d (filter p (map (λ k. k) (range_with_len 0 n))) (cond (p n) (n ∷ []) [])
 
-module _ {D : Type 0} (K : Kind D) (ds : List D) where
-  -- what is read at a place is the date of that event
-  pub read_at : (i : ℕ) (x : D) → i < length ds → x ≡ get_or ds i x → x ≡ dating_of K ds i
-  read_at i x h e = e ∙ get_or_default ds i x K.never h
-
-  pub latest_none : (p : ℕ → Bool) → None ≡ latest K (dating_of K ds) p 0
+  latest_is : (n : ℕ) → last (dates n) ≡ latest K d p n
   unfolding latest
-  latest_none p = refl
+  latest_is zero = refl
+  latest_is (suc n) =
+      ap last (dates_more n)
+      ∙ elim (p n) as (λ b. last (dates n ++ map d (cond b (n ∷ []) [])) ≡ cond b (later K (latest K d p n) (d n)) (latest K d p n)) [
+        | true ↦ last_more (dates n) (d n) ∙ ap (λ (o : Option D). later K o (d n)) (latest_is n)
+        | false ↦ ap last (append-nil (dates n)) ∙ latest_is n
+      ]
 
-  pub latest_next : (p : ℕ → Bool) (n : ℕ) (b : Bool) → p n ≡ b
-      → cond b (later K (latest K (dating_of K ds) p n) (dating_of K ds n)) (latest K (dating_of K ds) p n) ≡ latest K (dating_of K ds) p (n + 1)
-  unfolding latest
-  latest_next p n b e =
-      sym (ap (λ (m : ℕ). latest K (dating_of K ds) p m) (add-one n)
-      ∙ ap (λ (c : Bool). cond c (later K (latest K (dating_of K ds) p n) (dating_of K ds n)) (latest K (dating_of K ds) p n)) e)
-
-  pub table_none : (rs : List Row) → K.never ≡ table_date K (dating_of K ds) (drop (length rs) rs)
-  table_none rs = sym (ap (table_date K (dating_of K ds)) (drop-length rs))
-
-  -- one row more, from the end
-  pub table_next : (rows : List Row) (len k : ℕ) → k < len → k < length (take len rows)
-      → joined K Or (row_date K (dating_of K ds) (get_or rows k absent)) (table_date K (dating_of K ds) (drop (suc k) (take len rows)))
-      ≡ table_date K (dating_of K ds) (drop k (take len rows))
-  table_next rows len k h l =
-      sym (ap (table_date K (dating_of K ds)) (drop-cons (take len rows) k absent l)
-      ∙ ap (λ (r : Row). joined K Or (row_date K (dating_of K ds) r) (table_date K (dating_of K ds) (drop (suc k) (take len rows)))) (get_or-take len rows k absent h))
+  pub latest_by : (r : Option D) (n : ℕ) → r ≡ last (map d (filter p (range_with_len 0 n))) → r ≡ latest K d p n
+  latest_by r n e = e ∙ ap (λ (l : List ℕ). last (map d (filter p l))) (sym (map-id (range_with_len 0 n))) ∙ latest_is n

@@ -10,7 +10,8 @@ use Rattle.sequences.specs.Rows.{Fitting, entered, blank, listed, precedes, ties
 use Rattle.sequences.specs.Walks.{Sound}
 use Rattle.sequences.specs.declared.row.Row.{Row}
 use Rattle.sequences.specs.declared.row.Factor.{Factor}
-use Rattle.sequences.specs.declared.row.Factor.TheVariants.{Letter, Less, Tie}
+use Rattle.sequences.specs.declared.row.Sign.TheVariants.{Precedes, Ties}
+use Rattle.sequences.specs.declared.row.Factor.TheVariants.{Letter, Pair}
 use Rattle.sequences.proofs.Tests.{or_in_l, or_in_r, or_out, T_not_false}
 use Rattle.sequences.proofs.Bits.{has_or, has_one, has_none}
 use Rattle.sequences.proofs.Turns.{linked_same, linked_other, linked_past}
@@ -93,14 +94,14 @@ entered_sound (Letter v) r h s = record {
   both = s.both;
   apart = s.apart;
 }
-entered_sound (Less v w) r h s = record {
+entered_sound (Pair Precedes v w) r h s = record {
   sizes = (length-set _ _ _ ∙ s.sizes.0, s.sizes.1);
   low = s.low;
   right = λ x y t. elim (pair_out r.before.of v w (omega (arith, s.sizes.0)) x y t) [ inl a ↦ s.right x y a | inr e ↦ omega (arith, e.1) ];
   both = s.both;
   apart = s.apart;
 }
-entered_sound (Tie v w) r h s = record {
+entered_sound (Pair Ties v w) r h s = record {
   sizes = (s.sizes.0, length-set _ _ _ ∙ length-set _ _ _ ∙ s.sizes.1);
   low = s.low;
   right = s.right;

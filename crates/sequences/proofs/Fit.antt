@@ -13,12 +13,13 @@ use Rattle.sequences.specs.Walks.{Sound}
 use Rattle.sequences.specs.Sequences.{letter_of, single, factor_of, enter_of, onto, row_of}
 use Rattle.sequences.specs.declared.row.Row.{Row}
 use Rattle.sequences.specs.declared.row.Factor.{Factor}
-use Rattle.sequences.specs.declared.row.Factor.TheVariants.{Letter, Less, Tie}
+use Rattle.sequences.specs.declared.row.Sign.TheVariants.{Precedes, Ties}
+use Rattle.sequences.specs.declared.row.Factor.TheVariants.{Letter, Pair}
 use Rattle.sequences.proofs.Tests.{and_in, and_out, not_T_is}
 use Rattle.sequences.proofs.Entered.{bit_out, pair_out, tie_out, blank_sound, blank_listed, blank_precedes, blank_ties, entered_sound}
-use Rattle.sequences.proofs.Tallies.{one_mono, one_small, tally_most}
+use Rattle.sequences.proofs.Tallies.{grid, one, one_mono, one_small, tally, tally_most}
 use Rattle.sequences.proofs.Tables.{some_same, none_some, IsLetter, pair_of_lem, factor_of_lem}
-use Rattle.sequences.specs.Lines.{sifted, paired, items, spell, rest, line_of, LinesFit, one, tally, grid}
+use Rattle.sequences.specs.Lines.{sifted, paired, items, spell, rest, line_of, LinesFit}
 
 or_else : {A B : Type 0} → A ⊎ B → (B → ⊥) → A
 or_else (inl a) n = a
@@ -97,23 +98,23 @@ unfolding weight
 items_weight r =
     total_append (map Letter (sifted 24 (λ v. listed r v))) _
     ∙ ap₂ ◌+◌ (total_sifted Letter 2 (λ v. refl) (λ v. listed r v) 24)
-    (total_append (paired Less 24 (λ v w. precedes r v w)) _
-    ∙ ap₂ ◌+◌ (total_paired Less 4 (λ v w. refl) (λ v w. precedes r v w) 24) (total_paired Tie 4 (λ v w. refl) (λ v w. lt_ties r v w) 24))
+    (total_append (paired (Pair Precedes) 24 (λ v w. precedes r v w)) _
+    ∙ ap₂ ◌+◌ (total_paired (Pair Precedes) 4 (λ v w. refl) (λ v w. precedes r v w) 24) (total_paired (Pair Ties) 4 (λ v w. refl) (λ v w. lt_ties r v w) 24))
 
 -- one more tie, told at its smaller letter
 tie_step : (r : Row) (v w : ℕ) → v < length r.ties.of → w < length r.ties.of
-    → grid 24 (λ x y. lt_ties (entered (Tie v w) r) x y) ≤ grid 24 (λ x y. lt_ties r x y) + 1
+    → grid 24 (λ x y. lt_ties (entered (Pair Ties v w) r) x y) ≤ grid 24 (λ x y. lt_ties r x y) + 1
 tie_step r v w h k =
     elim (cases_lt v w) [
-      | inl l ↦ grid_step (λ x y. lt_ties r x y) (λ x y. lt_ties (entered (Tie v w) r) x y) v w (λ x y t.
-          let j = and_out (ties (entered (Tie v w) r) x y) (ltb x y) t in
+      | inl l ↦ grid_step (λ x y. lt_ties r x y) (λ x y. lt_ties (entered (Pair Ties v w) r) x y) v w (λ x y t.
+          let j = and_out (ties (entered (Pair Ties v w) r) x y) (ltb x y) t in
           let m = ltb→lt x y j.1 in
           elim (tie_out r.ties.of v w h k x y j.0) [
             | inl a ↦ inl (and_in _ _ a j.1)
             | inr o ↦ elim o [ inl e ↦ inr e | inr e ↦ absurd (omega (arith, e.0, e.1)) ]
           ]) 24
-      | inr l ↦ grid_step (λ x y. lt_ties r x y) (λ x y. lt_ties (entered (Tie v w) r) x y) w v (λ x y t.
-          let j = and_out (ties (entered (Tie v w) r) x y) (ltb x y) t in
+      | inr l ↦ grid_step (λ x y. lt_ties r x y) (λ x y. lt_ties (entered (Pair Ties v w) r) x y) w v (λ x y t.
+          let j = and_out (ties (entered (Pair Ties v w) r) x y) (ltb x y) t in
           let m = ltb→lt x y j.1 in
           elim (tie_out r.ties.of v w h k x y j.0) [
             | inl a ↦ inl (and_in _ _ a j.1)
@@ -125,13 +126,13 @@ enter_weight : (f : Factor) (r : Row) → Fitting f → Sound r → weight (ente
 unfolding weight
 enter_weight (Letter v) r h s =
     omega (arith, tally_step (λ x. listed r x) (λ x. listed (entered (Letter v) r) x) v (λ x t. bit_out r.letters v x t) 24)
-enter_weight (Less v w) r h s =
+enter_weight (Pair Precedes v w) r h s =
     omega (
       arith,
-      grid_step (λ x y. precedes r x y) (λ x y. precedes (entered (Less v w) r) x y) v w
+      grid_step (λ x y. precedes r x y) (λ x y. precedes (entered (Pair Precedes v w) r) x y) v w
           (λ x y t. pair_out r.before.of v w (omega (arith, s.sizes.0)) x y t) 24,
     )
-enter_weight (Tie v w) r h s =
+enter_weight (Pair Ties v w) r h s =
     omega (arith, tie_step r v w (omega (arith, s.sizes.1)) (omega (arith, s.sizes.1)))
 
 -- the factor has as many bytes as its text
@@ -150,9 +151,9 @@ factor_length never f e = absurd (none_some f e)
 factor_length (node Or l r) f e = absurd (none_some f e)
 factor_length (node And l r) f e = absurd (none_some f e)
 factor_length (node Before l r) f e =
-    pair_of_lem (λ (g : Factor). length (text_of (node Before l r)) ≡ length (spell g)) Less l r (λ v w i j n. pair_length Before Less (λ v w. refl) l r v w i j) f e
+    pair_of_lem (λ (g : Factor). length (text_of (node Before l r)) ≡ length (spell g)) (Pair Precedes) l r (λ v w i j n. pair_length Before (Pair Precedes) (λ v w. refl) l r v w i j) f e
 factor_length (node Simultaneous l r) f e =
-    pair_of_lem (λ (g : Factor). length (text_of (node Simultaneous l r)) ≡ length (spell g)) Tie l r (λ v w i j n. pair_length Simultaneous Tie (λ v w. refl) l r v w i j) f e
+    pair_of_lem (λ (g : Factor). length (text_of (node Simultaneous l r)) ≡ length (spell g)) (Pair Ties) l r (λ v w i j n. pair_length Simultaneous (Pair Ties) (λ v w. refl) l r v w i j) f e
 factor_length (node Inclusive l r) f e = absurd (none_some f e)
 
 -- the row with the sequence t: how much longer it is
@@ -209,7 +210,3 @@ blank_weight =
 pub lines_fit : LinesFit
 lines_fit t r e =
     line_length (items r) (length (text_of t)) (omega (arith, items_weight r, blank_weight, (grown t blank r blank_sound e).by))
-
-pub total_line : (fs : List Factor) → total fs ≤ length (line_of fs)
-total_line [] = omega arith
-total_line (f ∷ fs) = omega (arith, length-append (spell f) (rest fs), rest_length fs)

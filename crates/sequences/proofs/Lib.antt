@@ -1,5 +1,6 @@
 pub mod Bits
 pub mod Tests
+pub mod Ranges
 pub mod Tallies
 pub mod Closure
 pub mod Turns
@@ -11,7 +12,6 @@ pub mod Entered
 pub mod Tables
 pub mod Tell
 pub mod Fit
-pub mod Fronts
 pub mod Padded
 pub mod Scanned
 pub mod Scanning
@@ -21,3 +21,5 @@ pub mod Held
 pub mod Datings
 pub mod Exact
 pub mod Only
+pub mod Earliest
+pub mod Spelt

@@ -1,55 +1,25 @@
 -- A closing, a date and a line have one answer only.
 -- Assumes nothing.
-use Rattle.std.proofs.Common.{◌≡◌, ℕ, List, length, Result, sym, refl, ◌∙◌, arith}
+use Rattle.std.proofs.Common.{◌≡◌, ℕ, List, length, Result, sym, refl, ◌∙◌}
 use Rattle.algebra.specs.Kinds.{Kind}
 use Rattle.algebra.specs.Terms.{dating_of}
 use Rattle.algebra.proofs.Refusals.{one_answer}
 use Rattle.sequences.specs.Closing.{CloseAsks, Closed}
-use Rattle.sequences.specs.Codes.{close_code, line_code, table_code}
+use Rattle.sequences.specs.Codes.{close_code, close_codes_differ, line_code, line_codes_differ, table_code, table_codes_differ}
 use Rattle.sequences.specs.Dates.{table_date}
-use Rattle.sequences.specs.Tables.{DateAsks, LineAnswered, LineAsks, Lined, TableDated, held}
-use Rattle.sequences.specs.declared.table.Table.{Table}
+use Rattle.sequences.specs.Tables.{DateAsks, LineAnswered, LineAsks, Lined, TableDated}
+use Rattle.sequences.specs.declared.row.Row.{Row}
 use Rattle.sequences.specs.declared.refusals.CloseRefusal.{CloseRefusal}
-use Rattle.sequences.specs.declared.refusals.CloseRefusal.TheVariants.{NoTree, NoSum, TooMany, ImpossibleSequence}
 use Rattle.sequences.specs.declared.refusals.LineRefusal.{LineRefusal}
-use Rattle.sequences.specs.declared.refusals.LineRefusal.TheVariants.{SmallBuffer, NoRow}
 use Rattle.sequences.specs.declared.refusals.TableRefusal.{TableRefusal}
-use Rattle.sequences.specs.declared.refusals.TableRefusal.TheVariants.{NoDating}
-
-pub close_apart : (e f : CloseRefusal) → close_code e ≡ close_code f → e ≡ f
-close_apart NoTree NoTree h = refl
-close_apart NoTree NoSum h = absurd (omega arith)
-close_apart NoTree TooMany h = absurd (omega arith)
-close_apart NoTree ImpossibleSequence h = absurd (omega arith)
-close_apart NoSum NoTree h = absurd (omega arith)
-close_apart NoSum NoSum h = refl
-close_apart NoSum TooMany h = absurd (omega arith)
-close_apart NoSum ImpossibleSequence h = absurd (omega arith)
-close_apart TooMany NoTree h = absurd (omega arith)
-close_apart TooMany NoSum h = absurd (omega arith)
-close_apart TooMany TooMany h = refl
-close_apart TooMany ImpossibleSequence h = absurd (omega arith)
-close_apart ImpossibleSequence NoTree h = absurd (omega arith)
-close_apart ImpossibleSequence NoSum h = absurd (omega arith)
-close_apart ImpossibleSequence TooMany h = absurd (omega arith)
-close_apart ImpossibleSequence ImpossibleSequence h = refl
-
-line_apart : (e f : LineRefusal) → line_code e ≡ line_code f → e ≡ f
-line_apart SmallBuffer SmallBuffer h = refl
-line_apart SmallBuffer NoRow h = absurd (omega arith)
-line_apart NoRow SmallBuffer h = absurd (omega arith)
-line_apart NoRow NoRow h = refl
-
-table_apart : (e f : TableRefusal) → table_code e ≡ table_code f → e ≡ f
-table_apart NoDating NoDating h = refl
 
 pub one_closing : (bs : List ℕ) (P : Unit {0} → Type 0) (r s : Result (Unit {0}) CloseRefusal) → Closed bs P r → Closed bs P s → s ≡ r
-one_closing bs P r s a b = one_answer close_code (CloseAsks bs) P close_apart (λ all x y p q. refl) s r b a
+one_closing bs P r s a b = one_answer close_code (CloseAsks bs) P close_codes_differ (λ all x y p q. refl) s r b a
 
-pub one_line : (t : Table) (row : ℕ) (old new : List ℕ) (r s : Result ℕ LineRefusal) → LineAnswered t row old new r → LineAnswered t row old new s → s ≡ r
-one_line t row old new r s a b =
-    one_answer line_code (LineAsks t row (length old)) (Lined t row old new) line_apart (λ all x y p q. p.long ∙ sym q.long) s r b a
+pub one_line : (rs : List Row) (row : ℕ) (old new : List ℕ) (r s : Result ℕ LineRefusal) → LineAnswered rs row old new r → LineAnswered rs row old new s → s ≡ r
+one_line rs row old new r s a b =
+    one_answer line_code (LineAsks rs row (length old)) (Lined rs row old new) line_codes_differ (λ all x y p q. p.long ∙ sym q.long) s r b a
 
-pub one_date : {D : Type 0} (K : Kind D) (ds : List D) (t : Table) (r s : Result D TableRefusal) → TableDated K ds t r → TableDated K ds t s → s ≡ r
-one_date K ds t r s a b =
-    one_answer table_code (DateAsks ds) (λ p. p ≡ table_date K (dating_of K ds) (held t)) table_apart (λ all x y p q. p ∙ sym q) s r b a
+pub one_date : {D : Type 0} (K : Kind D) (ds : List D) (rs : List Row) (r s : Result D TableRefusal) → TableDated K ds rs r → TableDated K ds rs s → s ≡ r
+one_date K ds rs r s a b =
+    one_answer table_code (DateAsks ds) (λ p. p ≡ table_date K (dating_of K ds) rs) table_codes_differ (λ all x y p q. p ∙ sym q) s r b a

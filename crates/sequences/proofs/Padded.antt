@@ -9,12 +9,6 @@ unfolding padded
 padded_none zero = refl
 padded_none (suc n) = ap (λ (l : List Row). blank ∷ l) (padded_none n)
 
-pub padded_length : (n : ℕ) (rs : List Row) → length (padded n rs) ≡ n
-unfolding padded
-padded_length zero rs = refl
-padded_length (suc n) [] = ap suc (padded_length n [])
-padded_length (suc n) (r ∷ rs) = ap suc (padded_length n rs)
-
 -- a blank row at the end is there already
 pub padded_blank : (n : ℕ) (rs : List Row) → padded n (rs ++ (blank ∷ [])) ≡ padded n rs
 unfolding padded
@@ -40,13 +34,6 @@ unfolding padded
 padded_last zero rs q d h = absurd (omega arith)
 padded_last (suc n) [] q d h = refl
 padded_last (suc n) (r ∷ rs) q d h = padded_last n rs q d (omega arith)
-
-pub padded_at : (n : ℕ) (rs : List Row) (k : ℕ) (d : Row) → length rs ≤ n → k < length rs → get_or (padded n rs) k d ≡ get_or rs k d
-unfolding padded
-padded_at zero rs k d h l = absurd (omega arith)
-padded_at (suc n) [] k d h l = absurd (omega arith)
-padded_at (suc n) (r ∷ rs) zero d h l = refl
-padded_at (suc n) (r ∷ rs) (suc k) d h l = padded_at n rs k d (omega arith) (omega arith)
 
 pub padded_front : (n : ℕ) (rs : List Row) → length rs ≤ n → take (length rs) (padded n rs) ≡ rs
 unfolding padded

@@ -1,17 +1,13 @@
 -- A row is impossible where a letter precedes one from which one comes back to it.
 -- Assumes nothing.
-use Rattle.std.proofs.Common.{◌≡◌, ℕ, ◌+◌, Bool, true, false, ◌&&◌, ◌||◌, T, ◌⊎◌, sym, refl, ap, ◌∙◌, subst, ap₂, inl, inr, add-one}
+use Rattle.std.proofs.Common.{◌≡◌, ℕ, Bool, true, false, ◌&&◌, ◌||◌, T, ◌⊎◌, Decides, sym, refl, ◌∙◌, subst, inl, inr}
 use Rattle.sequences.specs.Rows.{precedes, ties}
 use Rattle.sequences.specs.Walks.{Walk, stay, less, along, back, Impossible, Sound, Chain, one, more, any, Closes, Low}
 use Rattle.sequences.specs.declared.row.Row.{Row}
 use Rattle.sequences.proofs.Turns.{left_low, tied_low}
 use Rattle.sequences.proofs.Closure.{joined}
-use Rattle.sequences.proofs.Tests.{or_in_l, or_in_r, or_out, and_in, and_out, any_in, any_out, T_not_false}
-
--- a test that fails adds nothing
-pub any_next : (p : ℕ → Bool) (n : ℕ) → any n p ≡ false → p n ≡ false → any (n + 1) p ≡ false
-unfolding any
-any_next p n e f = ap (λ (m : ℕ). any m p) (add-one n) ∙ ap₂ ◌||◌ f e
+use Rattle.sequences.proofs.Tests.{or_in_l, or_in_r, or_out, and_in, and_out, any_in, any_out, is_T, T_not_false}
+use Rattle.std.proofs.lemmas.Bool.{cases_Bool}
 
 module _ (r : Row) where
   -- any pair as a link
@@ -98,3 +94,10 @@ module _ (r : Row) (g : ℕ → ℕ → Bool) (s : Sound r) (closes : Closes (we
       T_not_false _ e
       (any_in 24 (λ v. any 24 (λ w. precedes r v w && g w v)) o.left (left_low r s _ _ o.by)
       (any_in 24 (λ w. precedes r o.left w && g w o.left) o.right (s.right _ _ o.by) (and_in _ _ o.by ((closes o.right o.left).1 o.back))))
+
+  -- an answer that is those tests tells whether the row is impossible
+  pub decides : (b : Bool) → b ≡ any 24 (λ v. any 24 (λ w. precedes r v w && g w v)) → Decides b (Impossible r)
+  decides b e = (
+    λ t. let k = any_out 24 (λ v. any 24 (λ w. precedes r v w && g w v)) (is_T _ (sym e ∙ t)) in found k.0 k.2,
+    λ i. elim (cases_Bool b) [ inl h ↦ h | inr h ↦ absurd (none (sym e ∙ h) i) ],
+  )

@@ -7,11 +7,11 @@ use Rattle.algebra.specs.Terms.{Term, leaf, never, node}
 use Rattle.algebra.specs.declared.Operator.{Operator}
 use Rattle.algebra.specs.declared.Operator.TheVariants.{Or, And, Before, Simultaneous, Inclusive}
 use Rattle.algebra.specs.Texts.{text_of, operator_byte}
-use Rattle.sequences.specs.Rows.{entered, blank, made}
+use Rattle.sequences.specs.Rows.{entered, blank}
 use Rattle.sequences.specs.Sequences.{letter_of, single, pair_of, factor_of, enter_of, onto, row_of, alone, both_of, sum_of}
 use Rattle.sequences.specs.declared.row.Row.{Row}
 use Rattle.sequences.specs.declared.row.Factor.{Factor}
-use Rattle.sequences.specs.declared.row.Factor.TheVariants.{Letter}
+use Rattle.sequences.specs.declared.row.Factor.TheVariants.{Letter, Pair}
 use Rattle.sequences.proofs.Tables.{some_same, none_some, IsLetter, letter_of_lem, pair_of_lem}
 use Rattle.sequences.specs.Scans.{State, advanced, begun, completed, is_letter, moved, reading_at, run, start, step, step_of}
 use Rattle.sequences.specs.declared.row.Sign.{Sign}
@@ -84,12 +84,12 @@ module _ (p s : ℕ) (rs : List Row) (r : Row) where
   first_letter t v h =
       ap (λ (m : Step). advanced m p rs r) (cond-true _ _ _ (letter_yes v h) ∙ ap (λ (n : ℕ). moved (Second t n) p s) (index v))
 
-  second_letter : (t : Sign) (v w : ℕ) → w < 24 → (v ≡ w → ⊥) → step_at (Second t v) p s rs r (97 + w) ≡ finish p s rs (entered (made t v w) r)
+  second_letter : (t : Sign) (v w : ℕ) → w < 24 → (v ≡ w → ⊥) → step_at (Second t v) p s rs r (97 + w) ≡ finish p s rs (entered (Pair t v w) r)
   second_letter t v w h n =
       ap (λ (m : Step). advanced m p rs r)
-      (ap (λ (i : ℕ). cond (is_letter (97 + w) && not (eqb v i)) (completed p s (made t v i)) (moved Nothing p s)) (index w)
+      (ap (λ (i : ℕ). cond (is_letter (97 + w) && not (eqb v i)) (completed p s (Pair t v i)) (moved Nothing p s)) (index w)
       ∙ cond-true _ _ _ (and_from _ _ (letter_yes w h) (ap not (ne_eqb v w n))))
-      ∙ enter_finish p s rs r (made t v w)
+      ∙ enter_finish p s rs r (Pair t v w)
 
   finish_more : (q : Row) → finish (p + 1) s rs q ≡ at Part p s rs q
   finish_more q = cond-false _ _ _ (ne_eqb (p + 1) 0 (λ e. omega arith)) ∙ ap (λ (n : ℕ). at Part n s rs q) (omega arith)
@@ -99,7 +99,7 @@ closed_more s rs = cond-false _ _ _ (ne_eqb (s + 1) 0 (λ e. omega arith)) ∙ a
 
 -- a part is read
 pair_read : (t : Sign) (p s : ℕ) (rs : List Row) (r : Row) (l m : Term ℕ) (more : List ℕ) (v w : ℕ) → IsLetter l v → IsLetter m w → (v ≡ w → ⊥)
-    → run (at (First t) p s rs r) ((text_of l ++ text_of m) ++ more) ≡ run (finish p s rs (entered (made t v w) r)) more
+    → run (at (First t) p s rs r) ((text_of l ++ text_of m) ++ more) ≡ run (finish p s rs (entered (Pair t v w) r)) more
 pair_read t p s rs r l m more v w i j n =
     ap₂ (λ (a b : Term ℕ). run (at (First t) p s rs r) ((text_of a ++ text_of b) ++ more)) i.is j.is
     ∙ ap (λ (st : State). run (step st (97 + w)) more) (first_letter p s rs r t v i.low)
@@ -122,11 +122,11 @@ entered_by : (o : Option Factor) (r q : Row) → enter_of o r ≡ some q → (f 
 entered_by none r q e = absurd (none_some q e)
 entered_by (some f) r q e = (f, refl, some_same (entered f r) q e)
 
-pair_reads : (t : Sign) (l m : Term ℕ) (p s : ℕ) (rs : List Row) (r q : Row) → enter_of (pair_of (made t) (letter_of l) (letter_of m)) r ≡ some q
+pair_reads : (t : Sign) (l m : Term ℕ) (p s : ℕ) (rs : List Row) (r q : Row) → enter_of (pair_of (Pair t) (letter_of l) (letter_of m)) r ≡ some q
     → (more : List ℕ) → run (at (First t) p s rs r) ((text_of l ++ text_of m) ++ more) ≡ run (finish p s rs q) more
 pair_reads t l m p s rs r q e more =
-    let k = entered_by (pair_of (made t) (letter_of l) (letter_of m)) r q e in
-    pair_of_lem (λ (f : Factor). run (at (First t) p s rs r) ((text_of l ++ text_of m) ++ more) ≡ run (finish p s rs (entered f r)) more) (made t) l m
+    let k = entered_by (pair_of (Pair t) (letter_of l) (letter_of m)) r q e in
+    pair_of_lem (λ (f : Factor). run (at (First t) p s rs r) ((text_of l ++ text_of m) ++ more) ≡ run (finish p s rs (entered f r)) more) (Pair t) l m
     (λ v w i j n. pair_read t p s rs r l m more v w i j n) k.0 k.1
     ∙ ap (λ (x : Row). run (finish p s rs x) more) k.2
 
@@ -227,21 +227,21 @@ module _ (p s : ℕ) (rs : List Row) (r : Row) where
   same_no t v w more e =
       refused_by _ (bad p s rs r) more (ap (λ (m : Step). advanced m p rs r) (cond-false _ _ _ (and_right (is_letter (97 + w)) _ (ap not (eq-eqb v (97 + w - 97) (e ∙ sym (index w))))))) refl
 
-  pair_no : (t : Sign) (l m : Term ℕ) → enter_of (pair_of (made t) (letter_of l) (letter_of m)) r ≡ none → (more : List ℕ)
+  pair_no : (t : Sign) (l m : Term ℕ) → enter_of (pair_of (Pair t) (letter_of l) (letter_of m)) r ≡ none → (more : List ℕ)
       → Refused (at (First t) p s rs r) ((text_of l ++ text_of m) ++ more)
   pair_no t l m e more =
       ap (λ (bs : List ℕ). (run (at (First t) p s rs r) bs).reading.wants) (append_assoc (text_of l) (text_of m) more) ∙ go (letter_of l) (letter_of m) refl refl e
     where
-      pick : (v w : ℕ) → letter_of l ≡ some v → letter_of m ≡ some w → (b : Bool) → eqb v w ≡ b → enter_of (cond b none (some (made t v w))) r ≡ none
+      pick : (v w : ℕ) → letter_of l ≡ some v → letter_of m ≡ some w → (b : Bool) → eqb v w ≡ b → enter_of (cond b none (some (Pair t v w))) r ≡ none
           → (run (at (First t) p s rs r) (text_of l ++ (text_of m ++ more))).reading.wants ≡ Nothing
       pick v w a b true q e =
           let i = letter_of_lem l v a in
           let j = letter_of_lem m w b in
           ap₂ (λ (x y : Term ℕ). (run (at (First t) p s rs r) (text_of x ++ (text_of y ++ more))).reading.wants) i.is j.is
           ∙ ap (λ (st : State). (run st ((97 + w) ∷ more)).reading.wants) (first_letter p s rs r t v i.low) ∙ same_no t v w more (eqb-true v w q)
-      pick v w a b false q e = absurd (some_none (entered (made t v w) r) e)
+      pick v w a b false q e = absurd (some_none (entered (Pair t v w) r) e)
 
-      go : (o q : Option ℕ) → letter_of l ≡ o → letter_of m ≡ q → enter_of (pair_of (made t) o q) r ≡ none
+      go : (o q : Option ℕ) → letter_of l ≡ o → letter_of m ≡ q → enter_of (pair_of (Pair t) o q) r ≡ none
           → (run (at (First t) p s rs r) (text_of l ++ (text_of m ++ more))).reading.wants ≡ Nothing
       go none q a b e = first_no t l (text_of m ++ more) a
       go (some v) none a b e =

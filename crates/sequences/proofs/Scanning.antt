@@ -1,19 +1,18 @@
 -- One byte more, as the code keeps it.
 -- Assumes nothing.
-use Rattle.std.proofs.Common.{◌≡◌, ℕ, ◌+◌, ◌-◌, ◌<◌, ◌≤◌, Bool, true, false, cond, not, ◌&&◌, T, eqb, leb, List, [], ◌∷◌, ◌++◌, length, get_or, take, set, Some, None, Option, sym, refl, ap, ◌∙◌, subst, ap₂, inl, inr, add-one, arith, leb→le, length-append, take-suc}
+use Rattle.std.proofs.Common.{◌≡◌, ◌≢◌, ℕ, ◌+◌, ◌-◌, ◌<◌, ◌≤◌, Bool, true, false, cond, not, ◌&&◌, T, eqb, leb, List, [], ◌∷◌, ◌++◌, length, get_or, take, set, Some, None, Option, sym, refl, ap, ◌∙◌, subst, ap₂, inl, inr, add-one, arith, leb→le, length-append, take-suc}
 use Rattle.std.proofs.lemmas.Bool.{cond_both, cases_lt, eqb-false}
-use Rattle.sequences.specs.Rows.{Fitting, absent, blank, entered, made, padded}
-use Rattle.sequences.specs.Scans.{State, Keeps, Ready, after, advanced, begun, completed, ends, is_letter, moved, reading_at, run, start, step, step_of, stepped}
+use Rattle.algebra.specs.Texts.{event_byte}
+use Rattle.sequences.specs.Rows.{Fitting, absent, blank, entered, padded}
+use Rattle.sequences.specs.Scans.{State, Keeps, Ready, after, advanced, begun, completed, is_letter, moved, reading_at, run, start, step, step_of, stepped}
 use Rattle.sequences.specs.declared.row.Factor.{Factor}
-use Rattle.sequences.specs.declared.row.Factor.TheVariants.{Letter}
+use Rattle.sequences.specs.declared.row.Factor.TheVariants.{Letter, Pair}
 use Rattle.sequences.specs.declared.row.Row.{Row}
-use Rattle.sequences.specs.declared.row.Sign.{Sign}
-use Rattle.sequences.specs.declared.row.Sign.TheVariants.{Precedes, Ties}
 use Rattle.sequences.specs.declared.scan.Reading.{Reading}
 use Rattle.sequences.specs.declared.scan.Step.{Step}
 use Rattle.sequences.specs.declared.scan.Wants.{Wants}
 use Rattle.sequences.specs.declared.scan.Wants.TheVariants.{Sum, Part, First, Second, End, Nothing}
-use Rattle.sequences.proofs.Tests.{T_is, and_out, is_T}
+use Rattle.sequences.proofs.Tests.{T_is, and_out, is_T, not_T_is}
 use Rattle.sequences.proofs.Padded.{padded_blank, padded_past, padded_set, padded_last}
 
 abbrev FitsIf : Option Factor → Type 0
@@ -32,9 +31,11 @@ letter_low b e =
     let k = and_out (leb 97 b) (leb b 120) (is_T _ e) in
     let l = leb→le b 120 k.1 in omega arith
 
-made_fits : (sign : Sign) (v w : ℕ) → v < 24 → w < 24 → (v ≡ w → ⊥) → Fitting (made sign v w)
-made_fits Precedes v w h k n = (h, k, n)
-made_fits Ties v w h k n = (h, k, n)
+pub no_letter : (b : ℕ) → ((v : ℕ) → v < 24 → b ≢ event_byte v) → is_letter b ≡ false
+no_letter b h = not_T_is (is_letter b) (λ t.
+    let k = and_out (leb 97 b) (leb b 120) t in
+    let low = leb→le 97 b k.0 in
+    h (b - 97) (letter_low b (T_is _ t)) (omega arith))
 
 onward_good : (p s : ℕ) (f : Factor) → Fitting f → Good p s (completed p s f)
 onward_good p s f h = go (eqb p 0) (eqb s 0)
@@ -65,7 +66,7 @@ step_good (Second sign v) p s b h =
     cond_both (is_letter b && not (eqb v (b - 97))) _ _ (Good p s)
     (λ e.
     let k = and_out (is_letter b) (not (eqb v (b - 97))) (is_T _ e) in
-    onward_good p s (made sign v (b - 97)) (made_fits sign v (b - 97) h (letter_low b (T_is _ k.0)) (eqb-false v (b - 97) (not_is _ k.1))))
+    onward_good p s (Pair sign v (b - 97)) (h, letter_low b (T_is _ k.0), eqb-false v (b - 97) (not_is _ k.1)))
     (λ e. nothing_good p s)
   where
     not_is : (c : Bool) → T (not c) → c ≡ false
@@ -73,13 +74,6 @@ step_good (Second sign v) p s b h =
     not_is false t = refl
 step_good End p s b h = nothing_good p s
 step_good Nothing p s b h = nothing_good p s
-
--- a factor that a good step has fits
-pub fits_some : (m : Step) (f : Factor) (p s : ℕ) → Good p s m → m.factor ≡ Some f → Fitting f
-fits_some m f p s g e = subst FitsIf e g.fits
-
-pub ends_small : (p : ℕ) → ends p ≤ 1
-ends_small p = cond_both (eqb p 0) 1 0 (λ n. n ≤ 1) (λ e. omega arith) (λ e. omega arith)
 
 run_append : (st : State) (bs : List ℕ) (b : ℕ) → run st (bs ++ (b ∷ [])) ≡ step (run st bs) b
 run_append st [] b = refl
@@ -107,7 +101,7 @@ module _ (st : State) (g : Reading) (rows : List Row) (count b : ℕ) (m : Step)
   -- the rows with the factor in the row of the sequence being read
   module _ (f : Factor) (rows' : List Row) (count' : ℕ) (is : m.factor ≡ Some f)
       (in_row : count < 64 → rows' ≡ set rows count (entered f (get_or rows count absent))) (past : 64 ≤ count → rows' ≡ rows)
-      (counts : count' ≡ count + ends g.parts) where
+      (last : Bool) (is_last : last ≡ eqb g.parts 0) (counts : count' ≡ count + cond last 1 0) where
     abbrev new : Row
     new = entered f st.row
 
@@ -141,4 +135,5 @@ module _ (st : State) (g : Reading) (rows : List Row) (count b : ℕ) (m : Step)
         let a : step st b ≡ ended (eqb st.reading.parts 0) =
         advances ∙ ap (λ (o : Option Factor). after st.reading.parts m.next o st.done st.row) is in
         subst (λ (x : State). Keeps x m.next rows' count') (sym a)
-        (by_test (eqb st.reading.parts 0) (counts ∙ ap (λ (x : Reading). count + ends x.parts) (sym k.same)))
+        (by_test (eqb st.reading.parts 0)
+        (counts ∙ ap (λ (b : Bool). count + cond b 1 0) (is_last ∙ ap (λ (x : Reading). eqb x.parts 0) (sym k.same))))

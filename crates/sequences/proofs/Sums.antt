@@ -10,7 +10,8 @@ use Rattle.sequences.specs.Rows.{blank, entered, entered_all, row_with}
 use Rattle.sequences.specs.Sequences.{letter_of, pair_of, single, factor_of, enter_of, onto, row_of, alone, both_of, sum_of, rows_of, Factored, letter, less, tie, Sequenced, factor, both, Summed, sequence, plus, ClosesTo, nothing, sum, rows_with, RowsAre, RowsMatch}
 use Rattle.sequences.specs.declared.row.Row.{Row}
 use Rattle.sequences.specs.declared.row.Factor.{Factor}
-use Rattle.sequences.specs.declared.row.Factor.TheVariants.{Letter, Less, Tie}
+use Rattle.sequences.specs.declared.row.Sign.TheVariants.{Precedes, Ties}
+use Rattle.sequences.specs.declared.row.Factor.TheVariants.{Letter, Pair}
 use Rattle.sequences.proofs.Tables.{some_same, none_some, letter_of_lem, pair_of_lem}
 
 -- from the relations to the definitions
@@ -22,8 +23,8 @@ pair_is mk v w h k n = ap₂ (pair_of mk) (letter_is v h) (letter_is w k) ∙ co
 
 factor_row : {t : Term ℕ} {f : Factor} → Factored t f → (r : Row) → row_of t r ≡ some (entered f r)
 factor_row (letter {v = v} h) r = ap (λ (o : Option ℕ). enter_of (single o) r) (letter_is v h)
-factor_row (less {v = v} {w = w} h k n) r = ap (λ (o : Option Factor). enter_of o r) (pair_is Less v w h k n)
-factor_row (tie {v = v} {w = w} h k n) r = ap (λ (o : Option Factor). enter_of o r) (pair_is Tie v w h k n)
+factor_row (less {v = v} {w = w} h k n) r = ap (λ (o : Option Factor). enter_of o r) (pair_is (Pair Precedes) v w h k n)
+factor_row (tie {v = v} {w = w} h k n) r = ap (λ (o : Option Factor). enter_of o r) (pair_is (Pair Ties) v w h k n)
 
 all_append : (fs gs : List Factor) (r : Row) → entered_all (fs ++ gs) r ≡ entered_all gs (entered_all fs r)
 all_append [] gs r = refl
@@ -108,8 +109,8 @@ sequence_is (node And a b) r q e = go (row_of a r) (λ x k. sequence_is a r x k)
           sequenced = both i.sequenced j.sequenced;
           row = j.row ∙ ap (entered_all j.factors) i.row ∙ sym (all_append i.factors j.factors r);
         }
-sequence_is (node Before a b) r q e = pairs_are (node Before) Less (λ v w h k n. less h k n) a b r q e
-sequence_is (node Simultaneous a b) r q e = pairs_are (node Simultaneous) Tie (λ v w h k n. tie h k n) a b r q e
+sequence_is (node Before a b) r q e = pairs_are (node Before) (Pair Precedes) (λ v w h k n. less h k n) a b r q e
+sequence_is (node Simultaneous a b) r q e = pairs_are (node Simultaneous) (Pair Ties) (λ v w h k n. tie h k n) a b r q e
 sequence_is (node Inclusive a b) r q e = absurd (none_some q e)
 
 record SumIs (t : Term ℕ) (rs : List Row) : Type 0 where

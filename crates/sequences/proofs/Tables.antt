@@ -11,7 +11,8 @@ use Rattle.sequences.specs.Dates.{Counted, row_date, table_date}
 use Rattle.sequences.specs.Sequences.{letter_of, pair_of, single, factor_of, enter_of, onto, row_of, alone, both_of, sum_of, rows_of, TableKeeps}
 use Rattle.sequences.specs.declared.row.Row.{Row}
 use Rattle.sequences.specs.declared.row.Factor.{Factor}
-use Rattle.sequences.specs.declared.row.Factor.TheVariants.{Letter, Less, Tie}
+use Rattle.sequences.specs.declared.row.Sign.TheVariants.{Precedes, Ties}
+use Rattle.sequences.specs.declared.row.Factor.TheVariants.{Letter, Pair}
 use Rattle.std.proofs.lemmas.Bool.{eqb-false}
 use Rattle.sequences.proofs.Tests.{is_T}
 use Rattle.sequences.proofs.Dated.{NoLater, Sooner, Real, and_below, and_parts, or_left, or_right, or_cases, before_below, before_parts, tie_below, tie_parts, same_by}
@@ -42,8 +43,8 @@ letter_of_lem (node o l r) v e = absurd (none_some v e)
 module _ {D : Type 0} (K : Kind D) (d : ℕ → D) (x : D) where
   abbrev pub Asks : Factor → Type 0
   Asks (Letter v) = NoLater K (d v) x
-  Asks (Less v w) = Sooner K (d v) (d w) × NoLater K (d v) x
-  Asks (Tie v w) = Same K (d v) (d w) × NoLater K (d v) x
+  Asks (Pair Precedes v w) = Sooner K (d v) (d w) × NoLater K (d v) x
+  Asks (Pair Ties v w) = Same K (d v) (d w) × NoLater K (d v) x
 
 -- the factor is the term
 pub record IsFactor (t : Term ℕ) (f : Factor) : Type 1 where
@@ -58,20 +59,20 @@ letter_factor t v i = record {
   out = λ K d x real h. subst (λ (u : Term ℕ). NoLater K (date K d u) x) i.is h;
 }
 
-less_factor : (l r : Term ℕ) (v w : ℕ) → IsLetter l v → IsLetter r w → (v ≡ w → ⊥) → IsFactor (node Before l r) (Less v w)
+less_factor : (l r : Term ℕ) (v w : ℕ) → IsLetter l v → IsLetter r w → (v ≡ w → ⊥) → IsFactor (node Before l r) (Pair Precedes v w)
 less_factor l r v w i j n =
-    subst (λ (a : Term ℕ). IsFactor (node Before a r) (Less v w)) (sym i.is)
-    (subst (λ (b : Term ℕ). IsFactor (node Before (leaf v) b) (Less v w)) (sym j.is)
+    subst (λ (a : Term ℕ). IsFactor (node Before a r) (Pair Precedes v w)) (sym i.is)
+    (subst (λ (b : Term ℕ). IsFactor (node Before (leaf v) b) (Pair Precedes v w)) (sym j.is)
     (record {
       fits = (i.low, j.low, n);
       into = λ K d x h. before_below K (d v) (d w) x h.0 h.1;
       out = λ K d x real h. before_parts K (d v) (d w) x real h;
     }))
 
-tie_factor : (l r : Term ℕ) (v w : ℕ) → IsLetter l v → IsLetter r w → (v ≡ w → ⊥) → IsFactor (node Simultaneous l r) (Tie v w)
+tie_factor : (l r : Term ℕ) (v w : ℕ) → IsLetter l v → IsLetter r w → (v ≡ w → ⊥) → IsFactor (node Simultaneous l r) (Pair Ties v w)
 tie_factor l r v w i j n =
-    subst (λ (a : Term ℕ). IsFactor (node Simultaneous a r) (Tie v w)) (sym i.is)
-    (subst (λ (b : Term ℕ). IsFactor (node Simultaneous (leaf v) b) (Tie v w)) (sym j.is)
+    subst (λ (a : Term ℕ). IsFactor (node Simultaneous a r) (Pair Ties v w)) (sym i.is)
+    (subst (λ (b : Term ℕ). IsFactor (node Simultaneous (leaf v) b) (Pair Ties v w)) (sym j.is)
     (record {
       fits = (i.low, j.low, n);
       into = λ K d x h. tie_below K (d v) (d w) x h.0 h.1;
@@ -101,8 +102,8 @@ factor_of_lem (leaf u) f e = go (letter_of (leaf u)) refl e
 factor_of_lem never f e = absurd (none_some f e)
 factor_of_lem (node Or l r) f e = absurd (none_some f e)
 factor_of_lem (node And l r) f e = absurd (none_some f e)
-factor_of_lem (node Before l r) f e = pair_of_lem (IsFactor (node Before l r)) Less l r (less_factor l r) f e
-factor_of_lem (node Simultaneous l r) f e = pair_of_lem (IsFactor (node Simultaneous l r)) Tie l r (tie_factor l r) f e
+factor_of_lem (node Before l r) f e = pair_of_lem (IsFactor (node Before l r)) (Pair Precedes) l r (less_factor l r) f e
+factor_of_lem (node Simultaneous l r) f e = pair_of_lem (IsFactor (node Simultaneous l r)) (Pair Ties) l r (tie_factor l r) f e
 factor_of_lem (node Inclusive l r) f e = absurd (none_some f e)
 
 -- the row r' is r with the sequence t
@@ -115,13 +116,13 @@ pub record Entering (t : Term ℕ) (r r' : Row) : Type 1 where
 module _ (r : Row) (s : Sound r) where
   enter_counted : (f : Factor) → Fitting f → Counted (entered f r)
   enter_counted (Letter v) h = record { at = v; counted = counts_listed (entered (Letter v) r) v (bit_own r.letters v) }
-  enter_counted (Less v w) h = record {
+  enter_counted (Pair Precedes v w) h = record {
     at = v;
-    counted = counts_left (entered (Less v w) r) v w h.1 (pair_own r.before.of v w (omega (arith, s.sizes.0)));
+    counted = counts_left (entered (Pair Precedes v w) r) v w h.1 (pair_own r.before.of v w (omega (arith, s.sizes.0)));
   }
-  enter_counted (Tie v w) h = record {
+  enter_counted (Pair Ties v w) h = record {
     at = v;
-    counted = counts_tied (entered (Tie v w) r) v w h.1 (tie_there r.ties.of v w (omega (arith, s.sizes.1)) (omega (arith, s.sizes.1)));
+    counted = counts_tied (entered (Pair Ties v w) r) v w h.1 (tie_there r.ties.of v w (omega (arith, s.sizes.1)) (omega (arith, s.sizes.1)));
   }
 
   module _ {D : Type 0} (K : Kind D) (d : ℕ → D) (x : D) where
@@ -142,7 +143,7 @@ module _ (r : Row) (s : Sound r) where
       left = m.left;
       tied = m.tied;
     }
-    enter_in (Less v w) h m a =
+    enter_in (Pair Precedes v w) h m a =
         let l : v < length r.before.of = omega (arith, s.sizes.0) in
         record {
           less = λ p q t. elim (pair_out r.before.of v w l p q t) [ inl b ↦ m.less p q b | inr e ↦ lt_at v w p q e a.0 ];
@@ -151,7 +152,7 @@ module _ (r : Row) (s : Sound r) where
           left = λ p q t. elim (pair_out r.before.of v w l p q t) [ inl b ↦ m.left p q b | inr e ↦ le_at v p e.0 a.1 ];
           tied = m.tied;
         }
-    enter_in (Tie v w) h m a =
+    enter_in (Pair Ties v w) h m a =
         let l : v < length r.ties.of = omega (arith, s.sizes.1) in
         let k : w < length r.ties.of = omega (arith, s.sizes.1) in
         let flipped : Same K (d w) (d v) = record { fore = a.0.back; back = a.0.fore } in
@@ -175,14 +176,14 @@ module _ (r : Row) (s : Sound r) where
       record { less = m.less; same = m.same; listed = λ u t. m.listed u (bit_kept r.letters v u t); left = m.left; tied = m.tied },
       m.listed v (bit_own r.letters v),
     )
-    enter_out (Less v w) h m =
+    enter_out (Pair Precedes v w) h m =
         let l : v < length r.before.of = omega (arith, s.sizes.0) in
         let kept = pair_kept r.before.of v w l in
         let own = pair_own r.before.of v w l in (
           record { less = λ p q t. m.less p q (kept p q t); same = m.same; listed = m.listed; left = λ p q t. m.left p q (kept p q t); tied = m.tied },
           (m.less v w own, m.left v w own),
         )
-    enter_out (Tie v w) h m =
+    enter_out (Pair Ties v w) h m =
         let l : v < length r.ties.of = omega (arith, s.sizes.1) in
         let k : w < length r.ties.of = omega (arith, s.sizes.1) in
         let kept = tie_kept r.ties.of v w l k in

@@ -1,8 +1,20 @@
 -- How many numbers pass a test.
 -- Assumes nothing.
-use Rattle.std.proofs.Common.{ℕ, zero, suc, ◌<◌, ◌≤◌, Bool, true, false, T, subst, inl, inr, arith}
-use Rattle.sequences.specs.Lines.{one, tally}
+use Rattle.std.proofs.Common.{ℕ, zero, suc, ◌+◌, ◌<◌, ◌≤◌, Bool, true, false, T, subst, inl, inr, arith}
 use Rattle.sequences.proofs.Tests.{below_suc}
+
+abbrev pub one : Bool → ℕ
+one true = 1
+one false = 0
+
+-- how many numbers below n pass, and how many pairs
+unfoldable pub tally : ℕ → (ℕ → Bool) → ℕ
+tally zero p = 0
+tally (suc n) p = tally n p + one (p n)
+
+unfoldable pub grid : ℕ → (ℕ → ℕ → Bool) → ℕ
+grid zero p = 0
+grid (suc n) p = grid n p + tally 24 (p n)
 
 pub one_mono : (a b : Bool) → (T a → T b) → one a ≤ one b
 one_mono true true f = omega arith

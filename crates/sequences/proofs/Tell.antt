@@ -12,7 +12,8 @@ use Rattle.sequences.specs.Rows.{listed, precedes, ties}
 use Rattle.sequences.specs.Walks.{Sound}
 use Rattle.sequences.specs.declared.row.Row.{Row}
 use Rattle.sequences.specs.declared.row.Factor.{Factor}
-use Rattle.sequences.specs.declared.row.Factor.TheVariants.{Letter, Less, Tie}
+use Rattle.sequences.specs.declared.row.Sign.TheVariants.{Precedes, Ties}
+use Rattle.sequences.specs.declared.row.Factor.TheVariants.{Letter, Pair}
 use Rattle.sequences.proofs.Tests.{and_in, and_out, is_T, T_not_false, below_suc}
 use Rattle.sequences.proofs.Turns.{left_low, tied_low}
 use Rattle.sequences.specs.Lines.{sifted, paired, items, spell, rest, line_of, LinesTell}
@@ -22,9 +23,6 @@ head_same a b s t e = cc
 
 tail_same : (a b : ℕ) (s t : List ℕ) → a ∷ s ≡ b ∷ t → s ≡ t
 tail_same a b s t e = cc
-
-nil_cons : (a : ℕ) (s : List ℕ) → ◌≡◌ {A = List ℕ} [] (a ∷ s) → ⊥
-nil_cons a s e = let z : ◌≡◌ {A = ℕ} 0 1 = cc in omega arith
 
 -- a space or the end comes first, and no sign of a pair
 pub record Begins (s : List ℕ) : Type 0 where
@@ -59,14 +57,14 @@ signs a b c d s t n e = absurd (n (head_same c d s t (tail_same a b (c ∷ s) (d
 
 split : (f g : Factor) (s t : List ℕ) → Begins s → Begins t → spell f ++ s ≡ spell g ++ t → Both f g s t
 split (Letter v) (Letter w) s t a b e = record { item = ap Letter (add_same v w (head_same _ _ _ _ e)); on = tail_same _ _ _ _ e }
-split (Letter v) (Less x y) s t a b e = clash s a 60 _ (omega arith) (tail_same _ _ _ _ e)
-split (Letter v) (Tie x y) s t a b e = clash s a 61 _ (omega arith) (tail_same _ _ _ _ e)
-split (Less v w) (Letter x) s t a b e = clash t b 60 _ (omega arith) (sym (tail_same _ _ _ _ e))
-split (Less v w) (Less x y) s t a b e = same_pair Less 60 v w x y s t e
-split (Less v w) (Tie x y) s t a b e = signs _ _ 60 61 _ _ (λ q. omega arith) e
-split (Tie v w) (Letter x) s t a b e = clash t b 61 _ (omega arith) (sym (tail_same _ _ _ _ e))
-split (Tie v w) (Less x y) s t a b e = signs _ _ 61 60 _ _ (λ q. omega arith) e
-split (Tie v w) (Tie x y) s t a b e = same_pair Tie 61 v w x y s t e
+split (Letter v) (Pair Precedes x y) s t a b e = clash s a 60 _ (omega arith) (tail_same _ _ _ _ e)
+split (Letter v) (Pair Ties x y) s t a b e = clash s a 61 _ (omega arith) (tail_same _ _ _ _ e)
+split (Pair Precedes v w) (Letter x) s t a b e = clash t b 60 _ (omega arith) (sym (tail_same _ _ _ _ e))
+split (Pair Precedes v w) (Pair Precedes x y) s t a b e = same_pair (Pair Precedes) 60 v w x y s t e
+split (Pair Precedes v w) (Pair Ties x y) s t a b e = signs _ _ 60 61 _ _ (λ q. omega arith) e
+split (Pair Ties v w) (Letter x) s t a b e = clash t b 61 _ (omega arith) (sym (tail_same _ _ _ _ e))
+split (Pair Ties v w) (Pair Precedes x y) s t a b e = signs _ _ 61 60 _ _ (λ q. omega arith) e
+split (Pair Ties v w) (Pair Ties x y) s t a b e = same_pair (Pair Ties) 61 v w x y s t e
 
 rest_same : (fs gs : List Factor) → rest fs ≡ rest gs → fs ≡ gs
 rest_same [] [] e = refl
@@ -78,8 +76,8 @@ rest_same (f ∷ fs) (g ∷ gs) e =
 
 no_item : {G : Type 0} (f : Factor) (s : List ℕ) → 10 ∷ [] ≡ spell f ++ s → G
 no_item (Letter v) s e = absurd (let q = head_same 10 (97 + v) _ _ e in omega arith)
-no_item (Less v w) s e = absurd (let q = head_same 10 (97 + v) _ _ e in omega arith)
-no_item (Tie v w) s e = absurd (let q = head_same 10 (97 + v) _ _ e in omega arith)
+no_item (Pair Precedes v w) s e = absurd (let q = head_same 10 (97 + v) _ _ e in omega arith)
+no_item (Pair Ties v w) s e = absurd (let q = head_same 10 (97 + v) _ _ e in omega arith)
 
 line_same : (fs gs : List Factor) → line_of fs ≡ line_of gs → fs ≡ gs
 line_same [] [] e = refl
@@ -139,13 +137,13 @@ module _ (mk : ℕ → ℕ → Factor) (p : ℕ → ℕ → Bool) where
         | inr l ↦ Memᴰ.append_left _ (paired_in n v w l k t)
       ]
 
-  pub record Pair (f : Factor) : Type 0 where
+  pub record Placed (f : Factor) : Type 0 where
     pub one : ℕ
     pub two : ℕ
     pub is : f ≡ mk one two
     pub stands : T (p one two)
 
-  paired_out : (n : ℕ) (f : Factor) → Memᴰ f (paired mk n p) → Pair f
+  paired_out : (n : ℕ) (f : Factor) → Memᴰ f (paired mk n p) → Placed f
   unfolding paired
   paired_out zero f m = absurd (Memᴰ.not-nil m)
   paired_out (suc n) f m =
@@ -158,28 +156,28 @@ module _ (mk : ℕ → ℕ → Factor) (p : ℕ → ℕ → Bool) where
 -- the row has the item
 abbrev Lists : Row → Factor → Type 0
 Lists r (Letter v) = T (listed r v)
-Lists r (Less v w) = T (precedes r v w)
-Lists r (Tie v w) = T (ties r v w && ltb v w)
+Lists r (Pair Precedes v w) = T (precedes r v w)
+Lists r (Pair Ties v w) = T (ties r v w && ltb v w)
 
 items_in : (r : Row) → Sound r → (f : Factor) → Lists r f → Memᴰ f (items r)
 items_in r s (Letter v) t = Memᴰ.append_left _ (map_in Letter (sifted_in (λ v. listed r v) 24 v (s.low v t) t))
-items_in r s (Less v w) t =
+items_in r s (Pair Precedes v w) t =
     Memᴰ.append_right (map Letter (sifted 24 (λ v. listed r v)))
-    (Memᴰ.append_left _ (paired_in Less (λ v w. precedes r v w) 24 v w (left_low r s v w t) (s.right v w t) t))
-items_in r s (Tie v w) t =
+    (Memᴰ.append_left _ (paired_in (Pair Precedes) (λ v w. precedes r v w) 24 v w (left_low r s v w t) (s.right v w t) t))
+items_in r s (Pair Ties v w) t =
     let k = (and_out (ties r v w) (ltb v w) t).0 in
     Memᴰ.append_right (map Letter (sifted 24 (λ v. listed r v)))
-    (Memᴰ.append_right (paired Less 24 (λ v w. precedes r v w))
-    (paired_in Tie (λ v w. ties r v w && ltb v w) 24 v w (tied_low r s v w k) (tied_low r s w v (s.both v w k)) t))
+    (Memᴰ.append_right (paired (Pair Precedes) 24 (λ v w. precedes r v w))
+    (paired_in (Pair Ties) (λ v w. ties r v w && ltb v w) 24 v w (tied_low r s v w k) (tied_low r s w v (s.both v w k)) t))
 
 items_out : (r : Row) (f : Factor) → Memᴰ f (items r) → Lists r f
 items_out r f m =
     elim (Memᴰ.append_cases (map Letter (sifted 24 (λ v. listed r v))) m) [
       | inl k ↦ let j = map_out Letter f (sifted 24 (λ v. listed r v)) k in
           subst (Lists r) (sym j.is) (sifted_out (λ v. listed r v) 24 j.of j.lies)
-      | inr o ↦ elim (Memᴰ.append_cases (paired Less 24 (λ v w. precedes r v w)) o) [
-        | inl k ↦ let j = paired_out Less (λ v w. precedes r v w) 24 f k in subst (Lists r) (sym j.is) j.stands
-        | inr k ↦ let j = paired_out Tie (λ v w. ties r v w && ltb v w) 24 f k in subst (Lists r) (sym j.is) j.stands
+      | inr o ↦ elim (Memᴰ.append_cases (paired (Pair Precedes) 24 (λ v w. precedes r v w)) o) [
+        | inl k ↦ let j = paired_out (Pair Precedes) (λ v w. precedes r v w) 24 f k in subst (Lists r) (sym j.is) j.stands
+        | inr k ↦ let j = paired_out (Pair Ties) (λ v w. ties r v w && ltb v w) 24 f k in subst (Lists r) (sym j.is) j.stands
       ]
     ]
 
@@ -222,8 +220,8 @@ module _ (r q : Row) (s : Sound r) (z : Sound q) (e : items r ≡ items q) where
       elim (cases_order v w) [
         | inl i ↦ absurd (n i)
         | inr o ↦ elim o [
-          | inl l ↦ (and_out _ _ (over (Tie v w) (and_in _ _ t (lt→ltb v w l)))).0
-          | inr l ↦ z.both w v (and_out _ _ (over (Tie w v) (and_in _ _ (s.both v w t) (lt→ltb w v l)))).0
+          | inl l ↦ (and_out _ _ (over (Pair Ties v w) (and_in _ _ t (lt→ltb v w l)))).0
+          | inr l ↦ z.both w v (and_out _ _ (over (Pair Ties w v) (and_in _ _ (s.both v w t) (lt→ltb w v l)))).0
         ]
       ]
 
@@ -236,7 +234,7 @@ module _ (r q : Row) (s : Sound r) (z : Sound q) (e : items r ≡ items q) where
   before_same : r.before.of ≡ q.before.of
   before_same =
       sets_same _ _ (s.sizes.0 ∙ sym z.sizes.0)
-      (λ v w. bool_ext (precedes r v w) (precedes q v w) (over r q s z e (Less v w)) (over q r z s (sym e) (Less v w)))
+      (λ v w. bool_ext (precedes r v w) (precedes q v w) (over r q s z e (Pair Precedes v w)) (over q r z s (sym e) (Pair Precedes v w)))
 
   ties_same : r.ties.of ≡ q.ties.of
   ties_same =

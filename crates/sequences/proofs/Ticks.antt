@@ -10,9 +10,8 @@ use Rattle.sequences.specs.Walks.{one, Closes, closure, any, Sound, Impossible}
 use Rattle.sequences.specs.Dates.{Happens, HappensByTicks, Counted, row_date, ImpossibleByTicks}
 use Rattle.sequences.specs.declared.row.Row.{Row}
 use Rattle.sequences.proofs.Tests.{or_in_l, or_in_r, or_out, and_in, and_out, any_in, any_out, is_T}
-use Rattle.sequences.specs.Lines.{tally}
 use Rattle.sequences.proofs.Closure.{closes}
-use Rattle.sequences.proofs.Tallies.{tally_less, tally_most, tally_small}
+use Rattle.sequences.proofs.Tallies.{tally, tally_less, tally_most, tally_small}
 use Rattle.sequences.proofs.Turns.{left_low}
 use Rattle.sequences.proofs.Returns.{weak, weak_low, Gone, gone_on, closing, Over, round_impossible, found, none}
 use Rattle.sequences.proofs.Dated.{NoLater, Sooner, le_lt}

@@ -39,27 +39,14 @@ fill_turn f out i m l inv here v w h =
       | inr k ↦ linked_other out i m v w (λ e. omega arith) ∙ inv v w k
     ]
 
--- the same, where it is so already
-pub pass_turn : (f : ℕ → ℕ → Bool) (out : List ℕ) (i : ℕ)
-    → ((v w : ℕ) → v < i → linked out v w ≡ f v w) → ((w : ℕ) → linked out i w ≡ f i w)
-    → (v w : ℕ) → v < i + 1 → linked out v w ≡ f v w
-pass_turn f out i inv here v w h =
-    elim (below_next v i h) [
-      | inl e ↦ subst (λ (n : ℕ). linked out n w ≡ f n w) (sym e) (here w)
-      | inr k ↦ inv v w k
-    ]
-
 via_with : (ms : List ℕ) (k i w : ℕ) → linked ms i k ≡ true → via k (linked ms) i w ≡ (linked ms i w || linked ms k w)
 via_with ms k i w e = ap (λ (b : Bool). linked ms i w || (b && linked ms k w)) e
 
 via_without : (ms : List ℕ) (k i w : ℕ) → linked ms i k ≡ false → via k (linked ms) i w ≡ linked ms i w
 via_without ms k i w e = ap (λ (b : Bool). linked ms i w || (b && linked ms k w)) e ∙ or-false (linked ms i w)
 
-pub with_k : (ms : List ℕ) (o k i w : ℕ) → o ≡ get_or ms i 0 → linked ms i k ≡ true → has (bit_or o (get_or ms k 0)) w ≡ via k (linked ms) i w
+with_k : (ms : List ℕ) (o k i w : ℕ) → o ≡ get_or ms i 0 → linked ms i k ≡ true → has (bit_or o (get_or ms k 0)) w ≡ via k (linked ms) i w
 with_k ms o k i w q e = has_or o (get_or ms k 0) w ∙ ap (λ (n : ℕ). has n w || linked ms k w) q ∙ sym (via_with ms k i w e)
-
-pub without_k : (ms out : List ℕ) (k i w : ℕ) → get_or out i 0 ≡ get_or ms i 0 → linked ms i k ≡ false → linked out i w ≡ via k (linked ms) i w
-without_k ms out k i w q e = ap (λ (n : ℕ). has n w) q ∙ sym (via_without ms k i w e)
 
 -- what is so of the letters below the end is so of all, where nothing is past it
 pub to_all : (f : ℕ → ℕ → Bool) (out : List ℕ) (i : ℕ) → 24 ≤ i → length out ≡ 24 → ((v w : ℕ) → 24 ≤ v → f v w ≡ false)
@@ -80,16 +67,26 @@ abbrev pub Passed : List ℕ → ℕ → List ℕ → ℕ → Type 0
 Passed ms k out i =
     ((v w : ℕ) → v < i → linked out v w ≡ via k (linked ms) v w) × ((v : ℕ) → i ≤ v → get_or out v 0 ≡ get_or ms v 0) × (length out ≡ 24)
 
-pub passed_with : (ms out : List ℕ) (k i : ℕ) → i < 24 → linked ms i k ≡ true → Passed ms k out i → Passed ms k (set out i (bit_or (get_or out i 0) (get_or ms k 0))) (i + 1)
-passed_with ms out k i h t p = (
-  fill_turn (via k (linked ms)) out i _ (omega (arith, p.2)) p.0 (λ w. with_k ms (get_or out i 0) k i w (p.1 i (omega arith)) t),
-  λ v l. get_or-set_other out i v _ 0 (λ e. omega arith) ∙ p.1 v (omega arith),
-  length-set _ _ _ ∙ p.2,
-)
+module _ (ms out : List ℕ) (k i : ℕ) (h : i < 24) (p : Passed ms k out i) where
+  passed_to : (m : ℕ) → ((w : ℕ) → has m w ≡ via k (linked ms) i w) → Passed ms k (set out i m) (i + 1)
+  passed_to m here = (
+    fill_turn (via k (linked ms)) out i m (omega (arith, p.2)) p.0 here,
+    λ v l. get_or-set_other out i v m 0 (λ e. omega arith) ∙ p.1 v (omega arith),
+    length-set _ _ _ ∙ p.2,
+  )
 
-pub passed_without : (ms out : List ℕ) (k i : ℕ) → linked ms i k ≡ false → Passed ms k out i → Passed ms k out (i + 1)
-passed_without ms out k i t p =
-    (pass_turn (via k (linked ms)) out i p.0 (λ w. without_k ms out k i w (p.1 i (omega arith)) t), λ v l. p.1 v (omega arith), p.2)
+  same : get_or out i 0 ≡ get_or ms i 0
+  same = p.1 i (omega arith)
+
+  as_before : (b : Bool) → has (get_or out i 0) k ≡ b → linked ms i k ≡ b
+  as_before b e = subst (λ (n : ℕ). has n k ≡ b) same e
+
+  pub passed_with : (j : ℕ) → j ≡ k → has (get_or out i 0) k ≡ true → Passed ms k (set out i (bit_or (get_or out i 0) (get_or ms j 0))) (i + 1)
+  passed_with j q e =
+      passed_to _ (λ w. ap (λ (n : ℕ). has (bit_or (get_or out i 0) (get_or ms n 0)) w) q ∙ with_k ms (get_or out i 0) k i w same (as_before true e))
+
+  pub passed_without : has (get_or out i 0) k ≡ false → Passed ms k (set out i (get_or out i 0)) (i + 1)
+  passed_without e = passed_to _ (λ w. ap (λ (n : ℕ). has n w) same ∙ sym (via_without ms k i w (as_before false e)))
 
 module _ (r : Row) (s : Sound r) where
   pub left_low : (v w : ℕ) → T (precedes r v w) → v < 24

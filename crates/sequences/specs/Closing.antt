@@ -8,7 +8,7 @@ use Rattle.dates.specs.Ticks.{tick_kind}
 use Rattle.dates.specs.declared.Tick.{Tick}
 use Rattle.sequences.specs.Codes.{close_code}
 use Rattle.sequences.specs.Dates.{Happens, table_date}
-use Rattle.sequences.specs.Rows.{absent, padded, row_with}
+use Rattle.sequences.specs.Rows.{absent, row_with}
 use Rattle.sequences.specs.Sequences.{TextCloses, rows_with}
 use Rattle.sequences.specs.Walks.{Impossible}
 use Rattle.sequences.specs.declared.row.Factor.{Factor}
@@ -27,13 +27,6 @@ CloseAsks bs NoTree = Unit {0}
 CloseAsks bs NoSum = SumText bs
 CloseAsks bs TooMany = (x : List (List Factor)) → TextCloses bs x → length x ≤ 64
 CloseAsks bs ImpossibleSequence = (x : List (List Factor)) → TextCloses bs x → All (λ fs. Impossible (row_with fs) → ⊥) x
-
--- the first len rows are those of the text's sequences, from left to right, and the others are blank
-pub record RowsHold (bs : List ℕ) (rows : List Row) (len : ℕ) : Type 0 where
-  pub sequences : List (List Factor)
-  pub closes : TextCloses bs sequences
-  pub count : len ≡ length sequences
-  pub kept : rows ≡ padded 64 (rows_with sequences)
 
 -- the answer to a closing, where Given says what a grant leaves
 abbrev pub Closed : {A : Type 0} → List ℕ → (A → Type 0) → Result A CloseRefusal → Type 0

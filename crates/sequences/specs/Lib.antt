@@ -8,3 +8,4 @@ pub mod Scans
 pub mod Codes
 pub mod Closing
 pub mod Tables
+pub mod Stored

@@ -1,6 +1,6 @@
 -- The line of a row: its letters in order, then the '<' pairs, then the '=' pairs with the smaller letter first.
 -- Assumes nothing.
-use Rattle.std.specs.Prelude.{◌≡◌, ℕ, zero, suc, ◌+◌, ◌*◌, ◌<◌, ◌≤◌, Bool, true, false, cond, ◌&&◌, List, [], ◌∷◌, ◌++◌, map, length, drop, nat_lt}
+use Rattle.std.specs.Prelude.{◌≡◌, ℕ, zero, suc, ◌+◌, ◌<◌, ◌≤◌, Bool, cond, ◌&&◌, List, [], ◌∷◌, ◌++◌, map, length, drop, nat_lt}
 use Rattle.std.proofs.Math.Option.{some}
 use Rattle.algebra.specs.Terms.{Term}
 use Rattle.algebra.specs.Texts.{text_of}
@@ -9,7 +9,7 @@ use Rattle.sequences.specs.Walks.{Sound}
 use Rattle.sequences.specs.Sequences.{row_of}
 use Rattle.sequences.specs.declared.row.Row.{Row}
 use Rattle.sequences.specs.declared.row.Factor.{Factor}
-use Rattle.sequences.specs.declared.row.Factor.TheVariants.{Letter, Less, Tie}
+use Rattle.sequences.specs.declared.row.Factor.TheVariants.{Letter, Pair}
 use Rattle.sequences.specs.declared.row.Sign.{Sign}
 use Rattle.sequences.specs.declared.row.Sign.TheVariants.{Precedes, Ties}
 
@@ -27,12 +27,12 @@ paired mk (suc n) p = paired mk n p ++ map (mk n) (sifted 24 (p n))
 abbrev pub items : Row → List Factor
 items r =
     map Letter (sifted 24 (λ v. listed r v))
-    ++ (paired Less 24 (λ v w. precedes r v w) ++ paired Tie 24 (λ v w. ties r v w && nat_lt v w))
+    ++ (paired (Pair Precedes) 24 (λ v w. precedes r v w) ++ paired (Pair Ties) 24 (λ v w. ties r v w && nat_lt v w))
 
 abbrev pub spell : Factor → List ℕ
 spell (Letter v) = (97 + v) ∷ []
-spell (Less v w) = (97 + v) ∷ 60 ∷ (97 + w) ∷ []
-spell (Tie v w) = (97 + v) ∷ 61 ∷ (97 + w) ∷ []
+spell (Pair Precedes v w) = (97 + v) ∷ 60 ∷ (97 + w) ∷ []
+spell (Pair Ties v w) = (97 + v) ∷ 61 ∷ (97 + w) ∷ []
 
 -- one space before each further item, and byte 10 at the end
 abbrev pub rest : List Factor → List ℕ
@@ -70,40 +70,12 @@ spelt acc (f ∷ fs) = spelt (grown acc f) fs
 abbrev pub front : List ℕ → List ℕ → List ℕ
 front acc xs = acc ++ drop (length acc) xs
 
--- A buffer whose front is acc has the front more after.
-abbrev pub Puts : List ℕ → ℕ → List ℕ → ℕ → (List ℕ → List ℕ) → Type 0
-Puts before at after end more = (acc xs : List ℕ) → before ≡ front acc xs → at ≡ length acc → (after ≡ front (more acc) xs) × (end ≡ length (more acc))
-
 -- the letters of an item are among the 24
 abbrev pub Lettered : Factor → Type 0
 Lettered (Letter v) = v < 24
-Lettered (Less v w) = (v < 24) × (w < 24)
-Lettered (Tie v w) = (v < 24) × (w < 24)
+Lettered (Pair sign v w) = (v < 24) × (w < 24)
 
 -- a pair of the sign is printed: a tie with the smaller letter first
 abbrev pub stands : Sign → Row → ℕ → ℕ → Bool
 stands Ties r v w = ties r v w && nat_lt v w
 stands Precedes r v w = precedes r v w
-
-abbrev pub one : Bool → ℕ
-one true = 1
-one false = 0
-
--- how many numbers below n pass, and how many pairs
-unfoldable pub tally : ℕ → (ℕ → Bool) → ℕ
-tally zero p = 0
-tally (suc n) p = tally n p + one (p n)
-
-unfoldable pub grid : ℕ → (ℕ → ℕ → Bool) → ℕ
-grid zero p = 0
-grid (suc n) p = grid n p + tally 24 (p n)
-
--- a loop over the second letters, or over the letters: what was written, and how much at most
-pub record Upto (c : ℕ) (mk : ℕ → Factor) (p : ℕ → Bool) (n : ℕ) (a : List ℕ) (i : ℕ) (b : List ℕ) (j : ℕ) : Type 0 where
-  pub puts : Puts a i b j (λ acc. spelt acc (map mk (sifted n p)))
-  pub ends : j ≤ i + c * tally n p
-
--- a loop over the first letters
-pub record PairsUpto (mk : ℕ → ℕ → Factor) (p : ℕ → ℕ → Bool) (n : ℕ) (a : List ℕ) (i : ℕ) (b : List ℕ) (j : ℕ) : Type 0 where
-  pub puts : Puts a i b j (λ acc. spelt acc (paired mk n p))
-  pub ends : j ≤ i + 4 * grid n p

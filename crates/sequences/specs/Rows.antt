@@ -1,24 +1,31 @@
 -- Rows, and what a factor adds to one.
 -- Assumes nothing.
-use Rattle.std.specs.Prelude.{ℕ, zero, suc, ◌^◌, ◌<◌, Bool, List, [], ◌∷◌, replicate, ◌≢◌, bit_or}
+use Rattle.std.specs.Prelude.{◌≡◌, ℕ, zero, suc, ◌^◌, ◌<◌, Bool, List, [], ◌∷◌, replicate, ◌≢◌, bit_or}
 use Rattle.sequences.specs.Masks.{has, linked, added}
 use Rattle.sequences.specs.declared.row.Row.{Row}
 use Rattle.sequences.specs.declared.row.Factor.{Factor}
-use Rattle.sequences.specs.declared.row.Factor.TheVariants.{Letter, Less, Tie}
+use Rattle.sequences.specs.declared.row.Factor.TheVariants.{Letter, Pair}
 use Rattle.sequences.specs.declared.row.Sign.{Sign}
 use Rattle.sequences.specs.declared.row.Sign.TheVariants.{Precedes, Ties}
 
 -- its letters are among the 24, and those of a pair differ
 abbrev pub Fitting : Factor → Type 0
 Fitting (Letter v) = v < 24
-Fitting (Less v w) = (v < 24) × (w < 24) × (v ≢ w)
-Fitting (Tie v w) = (v < 24) × (w < 24) × (v ≢ w)
+Fitting (Pair sign v w) = (v < 24) × (w < 24) × (v ≢ w)
+
+-- what a pair is written with
+abbrev pub sign_byte : Sign → ℕ
+sign_byte Precedes = 60
+sign_byte Ties = 61
+
+abbrev pub SignByte : Sign → ℕ → Type 0
+SignByte s b = b ≡ sign_byte s
 
 -- the row with the factor's letter or pair; a tie stands at both its letters
 abbrev pub entered : Factor → Row → Row
 entered (Letter v) r = record { letters = bit_or r.letters (2 ^ v); before = r.before; ties = r.ties }
-entered (Less v w) r = record { letters = r.letters; before = record { of = added v w r.before.of }; ties = r.ties }
-entered (Tie v w) r = record { letters = r.letters; before = r.before; ties = record { of = added w v (added v w r.ties.of) } }
+entered (Pair Precedes v w) r = record { letters = r.letters; before = record { of = added v w r.before.of }; ties = r.ties }
+entered (Pair Ties v w) r = record { letters = r.letters; before = r.before; ties = record { of = added w v (added v w r.ties.of) } }
 
 -- the row has the letter v; it has the pair v < w; it has the tie v = w, at v
 abbrev pub listed : Row → ℕ → Bool
@@ -36,11 +43,6 @@ blank = record { letters = 0; before = record { of = replicate 24 0 }; ties = re
 -- what is read past the end of a list of rows
 abbrev pub absent : Row
 absent = record { letters = 0; before = record { of = [] }; ties = record { of = [] } }
-
--- the pair of a sign
-abbrev pub made : Sign → ℕ → ℕ → Factor
-made Precedes v w = Less v w
-made Ties v w = Tie v w
 
 -- the row with each of the factors, from left to right
 abbrev pub entered_all : List Factor → Row → Row

@@ -1,10 +1,10 @@
 -- A sum read byte by byte, from the left.
 -- Assumes nothing.
 use Rattle.std.specs.Prelude.{◌≡◌, ℕ, ◌+◌, ◌-◌, ◌<◌, Bool, true, false, cond, not, ◌&&◌, List, [], ◌∷◌, ◌++◌, length, Some, None, Option, ◌==◌, nat_le}
-use Rattle.sequences.specs.Rows.{blank, entered, made, padded}
+use Rattle.sequences.specs.Rows.{blank, entered, padded}
 use Rattle.sequences.specs.declared.row.Row.{Row}
 use Rattle.sequences.specs.declared.row.Factor.{Factor}
-use Rattle.sequences.specs.declared.row.Factor.TheVariants.{Letter}
+use Rattle.sequences.specs.declared.row.Factor.TheVariants.{Letter, Pair}
 use Rattle.sequences.specs.declared.row.Sign.TheVariants.{Precedes, Ties}
 use Rattle.sequences.specs.declared.scan.Wants.{Wants}
 use Rattle.sequences.specs.declared.scan.Wants.TheVariants.{Sum, Part, First, Second, End, Nothing}
@@ -43,7 +43,7 @@ abbrev pub step_of : Wants → ℕ → ℕ → ℕ → Step
 step_of Sum p s b = cond (b == 43) (moved Sum p (s + 1)) (begun p s b)
 step_of Part p s b = begun p s b
 step_of (First sign) p s b = cond (is_letter b) (moved (Second sign (b - 97)) p s) (moved Nothing p s)
-step_of (Second sign v) p s b = cond (is_letter b && not (v == b - 97)) (completed p s (made sign v (b - 97))) (moved Nothing p s)
+step_of (Second sign v) p s b = cond (is_letter b && not (v == b - 97)) (completed p s (Pair sign v (b - 97))) (moved Nothing p s)
 step_of End p s b = moved Nothing p s
 step_of Nothing p s b = moved Nothing p s
 
@@ -82,10 +82,6 @@ is_end (First sign) = false
 is_end (Second sign v) = false
 is_end End = true
 is_end Nothing = false
-
--- 1 where no part of the sequence is yet to come
-abbrev pub ends : ℕ → ℕ
-ends p = cond (p == 0) 1 0
 
 -- the letter that is kept for a pair is among the 24
 abbrev pub Ready : Wants → Type 0

@@ -10,7 +10,8 @@ use Rattle.sequences.specs.Rows.{blank, entered, row_with}
 use Rattle.sequences.specs.Dates.{table_date}
 use Rattle.sequences.specs.declared.row.Row.{Row}
 use Rattle.sequences.specs.declared.row.Factor.{Factor}
-use Rattle.sequences.specs.declared.row.Factor.TheVariants.{Letter, Less, Tie}
+use Rattle.sequences.specs.declared.row.Sign.TheVariants.{Precedes, Ties}
+use Rattle.sequences.specs.declared.row.Factor.TheVariants.{Letter, Pair}
 
 -- the letter that a term is
 abbrev pub letter_of : Term ℕ → Option ℕ
@@ -34,8 +35,8 @@ factor_of (leaf v) = single (letter_of (leaf v))
 factor_of never = none
 factor_of (node Or l r) = none
 factor_of (node And l r) = none
-factor_of (node Before l r) = pair_of Less (letter_of l) (letter_of r)
-factor_of (node Simultaneous l r) = pair_of Tie (letter_of l) (letter_of r)
+factor_of (node Before l r) = pair_of (Pair Precedes) (letter_of l) (letter_of r)
+factor_of (node Simultaneous l r) = pair_of (Pair Ties) (letter_of l) (letter_of r)
 factor_of (node Inclusive l r) = none
 
 abbrev pub enter_of : Option Factor → Row → Option Row
@@ -90,8 +91,8 @@ TableKeeps {D} K = (t : Term ℕ) (rs : List Row) → rows_of t ≡ some rs → 
 -- the term is the factor: a letter, or '<' or '=' with two different letters
 pub data Factored : Term ℕ → Factor → Type 0 where
   letter : {v : ℕ} → v < 24 → Factored (leaf v) (Letter v)
-  less : {v w : ℕ} → v < 24 → w < 24 → (v ≢ w) → Factored (node Before (leaf v) (leaf w)) (Less v w)
-  tie : {v w : ℕ} → v < 24 → w < 24 → (v ≢ w) → Factored (node Simultaneous (leaf v) (leaf w)) (Tie v w)
+  less : {v w : ℕ} → v < 24 → w < 24 → (v ≢ w) → Factored (node Before (leaf v) (leaf w)) (Pair Precedes v w)
+  tie : {v w : ℕ} → v < 24 → w < 24 → (v ≢ w) → Factored (node Simultaneous (leaf v) (leaf w)) (Pair Ties v w)
 
 -- the term is a sequence of these factors, from left to right: a factor, or '*' of two sequences
 pub data Sequenced : Term ℕ → List Factor → Type 0 where

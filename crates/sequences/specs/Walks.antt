@@ -1,7 +1,7 @@
 -- Walks along the pairs of a row.
 -- Assumes nothing.
-use Rattle.std.specs.Prelude.{◌≡◌, ℕ, zero, suc, ◌<◌, Bool, true, false, ◌&&◌, ◌||◌, T, List, length, slice_index_or}
-use Rattle.sequences.specs.Rows.{absent, listed, precedes, ties}
+use Rattle.std.specs.Prelude.{◌≡◌, ℕ, zero, suc, ◌<◌, Bool, true, false, ◌&&◌, ◌||◌, T, length}
+use Rattle.sequences.specs.Rows.{listed, precedes, ties}
 use Rattle.sequences.specs.declared.row.Row.{Row}
 
 -- from v to w along '<' from left to right and '=' either way, and whether a '<' was used
@@ -56,9 +56,3 @@ all (suc n) p = p n && all n p
 -- masks that are links closed under going on
 abbrev pub Closes : (ℕ → ℕ → Bool) → (ℕ → ℕ → Bool) → Type 0
 Closes f g = (v w : ℕ) → (T (g v w) → Chain f v w) × (Chain f v w → T (g v w))
-
--- one of the first len rows is impossible
-pub record SomeImpossible (rows : List Row) (len : ℕ) : Type 0 where
-  pub at : ℕ
-  pub low : at < len
-  pub impossible : Impossible (slice_index_or rows at absent)

@@ -1,8 +1,8 @@
 // Cut sequences: a text that is a sum of sequences closes into a table of rows, which has a date and prints its lines.
 #![tactic(auto)]
 
-mod closing;
 mod dating;
+mod letters;
 mod printing;
 pub mod refusals;
 mod row;

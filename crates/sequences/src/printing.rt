@@ -1,122 +1,142 @@
-// Prints the line of a row.
-ghost use Rattle.std.specs.Prelude.{◌≡◌, ℕ, ◌+◌, ◌*◌, ◌<◌, ◌≤◌, [], ◌∷◌, ◌++◌, length, nat_lt, slice_set};
-ghost use Rattle.sequences.specs.Lines.{Lettered, PairsUpto, Puts, Upto, front, gap, grid, grown, line, spell, stands, tally};
-ghost use Rattle.sequences.specs.Rows.{listed, made};
-ghost use Rattle.sequences.specs.declared.row.Factor.TheVariants.{Letter};
+// The line of a row.
+ghost use Rattle.std.specs.Prelude.{◌≡◌, ℕ, ◌+◌, ◌<◌, ◌≤◌, List, [], ◌∷◌, ◌++◌, length, map, take};
+ghost use Rattle.sequences.specs.Lines.{Lettered, front, gap, grown, line, paired, sifted, spelt, stands};
+ghost use Rattle.sequences.specs.Rows.{listed};
+ghost use Rattle.sequences.specs.declared.row.Factor.TheVariants.{Letter, Pair};
 
+use crate::letters::member;
 use crate::row::{Factor, Row, Sign};
-use crate::walk::member;
+use std::marker::Model;
 
-// Writes one byte, and answers the place after it.
-fn push(out: &mut [u8], at: usize, b: u8) -> usize
-    requires { at < length out.old }
-    ensures written { out.new ≡ slice_set out.old at b }
-    ensures ends { result ≡ at + 1 }
-{
-    out[at] = b;
-    at + 1
+// A line as far as it is written. Clauses see its bytes. It has an array and a count of its own: only four short
+// methods see them, and for these the crate takes no vector from elsewhere.
+#[derive(Drop)]
+pub struct Line {
+    bytes: [u8; 512],
+    len: usize,
 }
 
-// Something stands before the place.
-fn follows(at: usize) -> bool
-    ensures { result ≡ nat_lt 0 at }
-{
-    at > 0
-}
+impl Model for Line {
+    ghost Value = { List ℕ };
 
-// A space, where something stands before.
-fn space(out: &mut [u8], at: usize) -> usize
-    requires { at < length out.old }
-    ensures puts { Puts out.old at out.new result (λ acc. acc ++ gap acc) }
-    ensures ends { result ≤ at + 1 }
-{
-    if follows(at) { push(out, at, b' ') } else { at }
-}
+    ghost view = { λ l. take l.len l.bytes };
 
-// The two letters with the byte between them.
-fn pair(out: &mut [u8], at: usize, sign: u8, v: u8, w: u8) -> usize
-    requires { (v < 24) × ((w < 24) × (at + 3 ≤ length out.old)) }
-    ensures puts { Puts out.old at out.new result (λ acc. acc ++ ((97 + v) ∷ sign ∷ (97 + w) ∷ [])) }
-    ensures ends { result ≡ at + 3 }
-{
-    let second = push(out, at, b'a' + v);
-    let third = push(out, second, sign);
-    push(out, third, b'a' + w)
-}
-
-// Writes an item, after a space where it is not the first, and answers the place after it.
-fn put(out: &mut [u8], at: usize, item: Factor) -> usize
-    requires { (Lettered item) × (at + 4 ≤ length out.old) }
-    ensures puts { Puts out.old at out.new result (λ acc. grown acc item) }
-    ensures ends { result ≤ at + (length (spell item) + 1) }
-{
-    let end = space(out, at);
-    match item {
-        Factor::Letter(v) => push(out, end, b'a' + v),
-        Factor::Less(v, w) => pair(out, end, b'<', v, w),
-        Factor::Tie(v, w) => pair(out, end, b'=', v, w),
-    }
-}
-
-// Writes the row's letters in order.
-fn put_letters(row: &Row, out: &mut [u8]) -> usize
-    requires { 52 ≤ length out.old }
-    ensures { Upto 2 Letter (λ v. listed row.now v) 24 out.old 0 out.new result }
-{
-    let mut at = 0;
-    for v in 0..24 {
-        if member(row.letters, v) {
-            at = put(out, at, Factor::Letter(v as u8));
-        }
-    }
-    at
+    ghost invariant = { λ l. l.len ≤ 512 };
 }
 
 // The pair is printed: a tie with the smaller letter first.
-fn printed(row: &Row, sign: Sign, v: usize, w: usize) -> bool
+fn printed(row: &Row, sign: Sign, v: u8, w: u8) -> bool
     requires { (v < 24) × (w < 24) }
     ensures { result ≡ stands sign row.now v w }
 {
     match sign {
-        Sign::Precedes => member(row.before.of[v], w),
-        Sign::Ties => member(row.ties.of[v], w) && v < w,
+        Sign::Precedes => row.before.has(v, w),
+        Sign::Ties => row.ties.has(v, w) && v < w,
     }
 }
 
-// Writes the pairs of one sign whose first letter is v, by the second letter.
-fn put_pairs_of(row: &Row, sign: Sign, v: usize, out: &mut [u8], start: usize) -> usize
-    requires { (v < 24) × (start + 4 * tally 24 (λ w. stands sign row.now v w) ≤ length out.old) }
-    ensures { Upto 4 (made sign v) (λ w. stands sign row.now v w) 24 out.old start out.new result }
-{
-    let mut at = start;
-    for w in 0..24 {
-        if printed(row, sign, v, w) {
-            at = put(out, at, sign.of(v as u8, w as u8));
+impl Line {
+    // A line with nothing in it.
+    fn new() -> Line
+        ensures { result ≡ [] }
+    {
+        Line {
+            bytes: [0; 512],
+            len: 0,
         }
     }
-    at
-}
 
-// Writes the pairs of one sign, by first and second letter.
-fn put_pairs(row: &Row, sign: Sign, out: &mut [u8], start: usize) -> usize
-    requires { start + 4 * grid 24 (λ v w. stands sign row.now v w) ≤ length out.old }
-    ensures { PairsUpto (made sign) (λ v w. stands sign row.now v w) 24 out.old start out.new result }
-{
-    let mut at = start;
-    for v in 0..24 {
-        at = put_pairs_of(row, sign, v, out, at);
+    // Writes one byte.
+    fn push(&mut self, byte: u8)
+        requires { length self.old < 512 }
+        ensures { self.new ≡ self.old ++ byte ∷ [] }
+    {
+        self.bytes[self.len] = byte;
+        self.len += 1;
     }
-    at
-}
 
-// Writes the row's line at the front of the buffer, and answers its length.
-pub fn print(row: &Row, out: &mut [u8]) -> usize
-    requires { (length (line row.now) ≤ 512) × (512 ≤ length out.old) }
-    ensures written { out.new ≡ front (line row.now) out.old }
-    ensures long { result ≡ length (line row.now) }
-{
-    let letters = put_letters(row, out);
-    let less = put_pairs(row, Sign::Precedes, out, letters);
-    let end = put_pairs(row, Sign::Ties, out, less);
-    push(out, end, b'\n')
+    // Writes a space, where something stands before.
+    fn space(&mut self)
+        requires { length self.old < 512 }
+        ensures { self.new ≡ self.old ++ gap self.old }
+    {
+        if self.len > 0 {
+            self.push(b' ');
+        }
+    }
+
+    // Writes the two letters with the byte between them.
+    fn pair(&mut self, sign: u8, v: u8, w: u8)
+        requires low { (v < 24) × (w < 24) }
+        requires room { length self.old + 3 ≤ 512 }
+        ensures { self.new ≡ self.old ++ (97 + v) ∷ sign ∷ (97 + w) ∷ [] }
+    {
+        self.push(b'a' + v);
+        self.push(sign);
+        self.push(b'a' + w);
+    }
+
+    // Writes an item, after a space where it is not the first.
+    fn put(&mut self, item: Factor)
+        requires low { Lettered item }
+        requires room { length (grown self.old item) ≤ 512 }
+        ensures { self.new ≡ grown self.old item }
+    {
+        self.space();
+        match item {
+            Factor::Letter(v) => self.push(b'a' + v),
+            Factor::Pair(sign, v, w) => self.pair(u8::from(sign), v, w),
+        }
+    }
+
+    // Writes the row's letters in order.
+    fn put_letters(&mut self, row: &Row)
+        requires { length (spelt self.old (map Letter (sifted 24 (λ v. listed row.now v)))) ≤ 512 }
+        ensures { self.new ≡ spelt self.old (map Letter (sifted 24 (λ v. listed row.now v))) }
+    {
+        // The test stands in the loop: with `filter(..)` it stayed open that the letter is below 24 and that its item fits.
+        for v in 0..24 {
+            if member(row.letters, v) {
+                self.put(Factor::Letter(v));
+            }
+        }
+    }
+
+    // Writes the row's pairs of one sign, by first and second letter.
+    fn put_pairs(&mut self, row: &Row, sign: Sign)
+        requires { length (spelt self.old (paired (Pair sign) 24 (λ v w. stands sign row.now v w))) ≤ 512 }
+        ensures { self.new ≡ spelt self.old (paired (Pair sign) 24 (λ v w. stands sign row.now v w)) }
+    {
+        // Two loops with a test say the order plainly: as one chain they would be a map in a map, and a filter over pairs.
+        for v in 0..24 {
+            for w in 0..24 {
+                if printed(row, sign, v, w) {
+                    self.put(Factor::Pair(sign, v, w));
+                }
+            }
+        }
+    }
+
+    // The line of the row.
+    pub fn of(row: &Row) -> Line
+        requires { length (line row.now) ≤ 512 }
+        ensures { result ≡ line row.now }
+    {
+        let mut line = Line::new();
+        line.put_letters(row);
+        line.put_pairs(row, Sign::Precedes);
+        line.put_pairs(row, Sign::Ties);
+        line.push(b'\n');
+        line
+    }
+
+    // Copies the line to the front of the buffer, and answers its length.
+    pub fn copy_to(&self, buffer: &mut [u8]) -> usize
+        requires { 512 ≤ length buffer.old }
+        ensures written { buffer.new ≡ front self.now buffer.old }
+        ensures long { result ≡ length self.now }
+    {
+        buffer[..self.len].copy_from_slice(&self.bytes[..self.len]);
+        self.len
+    }
 }

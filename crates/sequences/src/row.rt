@@ -1,56 +1,40 @@
 // The row of a sequence: its letters and pairs, as sets of letters.
-ghost use Rattle.std.specs.Prelude.{◌≡◌, ◌<◌};
-ghost use Rattle.sequences.specs.Masks.{added};
-ghost use Rattle.sequences.specs.Rows.{Fitting, blank, entered, made};
+ghost use Rattle.std.specs.Prelude.{◌≡◌};
+ghost use Rattle.sequences.specs.Rows.{Fitting, SignByte, blank, entered};
 
-// Of each of the 24 letters, a set of letters, by its bits.
-#[derive(Clone, Copy)]
-pub struct Pairs {
-    pub of: [u32; 24],
-}
+use crate::letters::LetterSets;
 
 // A set of letters, and of each letter the letters that it precedes and those that it ties.
-#[derive(Clone, Copy)]
+#[derive(Clone, Copy, Debug, PartialEq, Eq)]
 pub struct Row {
     pub letters: u32,
-    pub before: Pairs,
-    pub ties: Pairs,
-}
-
-// A letter, or a pair of two: `Less` is written with '<' and `Tie` with '='.
-#[derive(Clone, Copy)]
-pub enum Factor {
-    Letter(u8),
-    Less(u8, u8),
-    Tie(u8, u8),
+    pub before: LetterSets,
+    pub ties: LetterSets,
 }
 
 // What a pair is written with: '<' or '='.
-#[derive(Clone, Copy)]
+#[derive(Clone, Copy, Debug, PartialEq, Eq)]
 pub enum Sign {
     Precedes,
     Ties,
 }
 
-impl Sign {
-    // The pair of the two letters.
-    pub fn of(self, v: u8, w: u8) -> Factor
-        ensures { result ≡ made self v w }
-    {
-        match self {
-            Sign::Precedes => Factor::Less(v, w),
-            Sign::Ties => Factor::Tie(v, w),
+impl From<Sign> for u8 {
+    ghost from_gives = { SignByte };
+
+    fn from(sign: Sign) -> u8 {
+        match sign {
+            Sign::Precedes => b'<',
+            Sign::Ties => b'=',
         }
     }
 }
 
-impl Pairs {
-    fn add(&mut self, first: u8, second: u8)
-        requires { (first < 24) × (second < 24) }
-        ensures { self.new.of ≡ added first second self.old.of }
-    {
-        self.of[first as usize] |= 1 << second;
-    }
+// A letter, or a pair of two.
+#[derive(Clone, Copy, Debug, PartialEq, Eq)]
+pub enum Factor {
+    Letter(u8),
+    Pair(Sign, u8, u8),
 }
 
 impl Row {
@@ -60,8 +44,8 @@ impl Row {
     {
         Row {
             letters: 0,
-            before: Pairs { of: [0; 24] },
-            ties: Pairs { of: [0; 24] },
+            before: LetterSets::empty(),
+            ties: LetterSets::empty(),
         }
     }
 
@@ -72,8 +56,8 @@ impl Row {
     {
         match factor {
             Factor::Letter(v) => self.letters |= 1 << v,
-            Factor::Less(v, w) => self.before.add(v, w),
-            Factor::Tie(v, w) => {
+            Factor::Pair(Sign::Precedes, v, w) => self.before.add(v, w),
+            Factor::Pair(Sign::Ties, v, w) => {
                 self.ties.add(v, w);
                 self.ties.add(w, v);
             }

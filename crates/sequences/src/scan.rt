@@ -1,11 +1,13 @@
 // Reads a sum of sequences byte by byte, from the left, and enters each factor into the row of its sequence.
-ghost use Rattle.std.specs.Prelude.{◌≡◌, ◌<◌, ◌≤◌, length};
-ghost use Rattle.sequences.specs.Scans.{Keeps, begun, completed, ends, is_end, is_letter, moved, onward, reading_at, run, start, step_of};
+ghost use Rattle.std.specs.Prelude.{◌≡◌, ◌==◌, ◌<◌, ◌≤◌, length};
+ghost use Rattle.sequences.specs.Scans.{Keeps, begun, completed, is_end, moved, onward, reading_at, run, start, step_of};
 ghost use Rattle.sequences.specs.declared.scan.Wants.TheVariants.{First, Second, Sum};
 
 use crate::row::{Factor, Row, Sign};
+use algebra::event_of;
 
-// What the next byte is to begin.
+// What the next byte is to begin. After a byte that fits nowhere that is nothing, a state as the others are: the
+// definition too reads on to the end of the text.
 #[derive(Clone, Copy)]
 pub enum Wants {
     Sum,
@@ -39,12 +41,6 @@ pub struct Scan {
     pub count: usize,
 }
 
-fn is_letter(byte: u8) -> bool
-    ensures { result ≡ is_letter byte }
-{
-    byte >= b'a' && byte <= b'x'
-}
-
 impl Reading {
     fn start() -> Reading
         ensures { result ≡ reading_at Sum 0 0 }
@@ -60,44 +56,37 @@ impl Reading {
     fn onward(self) -> Reading
         ensures { result ≡ onward self.parts self.sums }
     {
-        if self.parts == 0 {
-            if self.sums == 0 {
-                Reading {
-                    wants: Wants::End,
-                    parts: 0,
-                    sums: 0,
-                }
-            } else {
-                Reading {
-                    wants: Wants::Sum,
-                    parts: 0,
-                    sums: self.sums - 1,
-                }
-            }
-        } else {
-            Reading {
+        match (self.parts, self.sums) {
+            (0, 0) => Reading {
+                wants: Wants::End,
+                parts: 0,
+                sums: 0,
+            },
+            (0, sums) => Reading {
+                wants: Wants::Sum,
+                parts: 0,
+                sums: sums - 1,
+            },
+            (parts, sums) => Reading {
                 wants: Wants::Part,
-                parts: self.parts - 1,
-                sums: self.sums,
-            }
+                parts: parts - 1,
+                sums,
+            },
         }
     }
 
-    // 1 where a factor ends its sequence.
-    fn ends(self) -> usize
-        ensures { result ≡ ends self.parts }
+    // Whether a factor ends its sequence.
+    fn is_last(self) -> bool
+        ensures { result ≡ (self.parts == 0) }
     {
-        if self.parts == 0 { 1 } else { 0 }
+        self.parts == 0
     }
 
     // Whether a whole sum was read, and nothing after it.
     pub fn ended(self) -> bool
         ensures { result ≡ is_end self.wants }
     {
-        match self.wants {
-            Wants::End => true,
-            _ => false,
-        }
+        matches!(self.wants, Wants::End)
     }
 
     // A byte that ends no factor.
@@ -105,11 +94,7 @@ impl Reading {
         ensures { result ≡ moved wants self.parts self.sums }
     {
         Step {
-            next: Reading {
-                wants,
-                parts: self.parts,
-                sums: self.sums,
-            },
+            next: Reading { wants, ..self },
             factor: None,
         }
     }
@@ -125,23 +110,23 @@ impl Reading {
     }
 
     // A byte where a part of a sequence begins.
+    #[tactic(auto, using(crate::proofs::Scanning::no_letter))]
     fn begins(self, byte: u8) -> Step
         requires { self.parts < 511 }
         ensures { result ≡ begun self.parts self.sums byte }
     {
         match byte {
-            b'*' => Step {
-                next: Reading {
-                    wants: Wants::Part,
-                    parts: self.parts + 1,
-                    sums: self.sums,
-                },
-                factor: None,
-            },
+            b'*' => Reading {
+                parts: self.parts + 1,
+                ..self
+            }
+            .moves(Wants::Part),
             b'<' => self.moves(Wants::First(Sign::Precedes)),
             b'=' => self.moves(Wants::First(Sign::Ties)),
-            b'a'..=b'x' => self.completes(Factor::Letter(byte - b'a')),
-            _ => self.moves(Wants::Nothing),
+            _ => match event_of(byte) {
+                Some(v) => self.completes(Factor::Letter(v)),
+                None => self.moves(Wants::Nothing),
+            },
         }
     }
 
@@ -151,42 +136,40 @@ impl Reading {
         ensures { result ≡ step_of Sum self.parts self.sums byte }
     {
         if byte == b'+' {
-            Step {
-                next: Reading {
-                    wants: Wants::Sum,
-                    parts: self.parts,
-                    sums: self.sums + 1,
-                },
-                factor: None,
+            Reading {
+                sums: self.sums + 1,
+                ..self
             }
+            .moves(Wants::Sum)
         } else {
             self.begins(byte)
         }
     }
 
     // The first letter of a pair.
+    #[tactic(auto, using(crate::proofs::Scanning::no_letter))]
     fn first(self, sign: Sign, byte: u8) -> Step
         ensures { result ≡ step_of (First sign) self.parts self.sums byte }
     {
-        if is_letter(byte) {
-            self.moves(Wants::Second(sign, byte - b'a'))
-        } else {
-            self.moves(Wants::Nothing)
+        match event_of(byte) {
+            Some(v) => self.moves(Wants::Second(sign, v)),
+            None => self.moves(Wants::Nothing),
         }
     }
 
     // The second letter of a pair, which is another.
+    #[tactic(auto, using(crate::proofs::Scanning::no_letter))]
     fn second(self, sign: Sign, v: u8, byte: u8) -> Step
         ensures { result ≡ step_of (Second sign v) self.parts self.sums byte }
     {
-        if is_letter(byte) && byte - b'a' != v {
-            self.completes(sign.of(v, byte - b'a'))
-        } else {
-            self.moves(Wants::Nothing)
+        match event_of(byte) {
+            Some(w) if w != v => self.completes(Factor::Pair(sign, v, w)),
+            _ => self.moves(Wants::Nothing),
         }
     }
 
-    // One byte more.
+    // One byte more. This is a reader by states, as the definition has it. Each count grows by one at most, and a text
+    // has at most 511 bytes, so neither gets to 511 before its last byte.
     fn step(self, byte: u8) -> Step
         requires { (self.parts < 511) × (self.sums < 511) }
         ensures { result ≡ step_of self.wants self.parts self.sums byte }
@@ -196,8 +179,7 @@ impl Reading {
             Wants::Part => self.begins(byte),
             Wants::First(sign) => self.first(sign, byte),
             Wants::Second(sign, v) => self.second(sign, v, byte),
-            Wants::End => self.moves(Wants::Nothing),
-            Wants::Nothing => self.moves(Wants::Nothing),
+            Wants::End | Wants::Nothing => self.moves(Wants::Nothing),
         }
     }
 }
@@ -214,9 +196,12 @@ pub fn scan_sum(text: &[u8]) -> Scan
         let step = reading.step(*byte);
         if let Some(factor) = step.factor {
             if count < 64 {
+                // A row of a plain array is lent.
                 rows[count].enter(factor);
             }
-            count += reading.ends();
+            if reading.is_last() {
+                count += 1;
+            }
         }
         reading = step.next;
     }

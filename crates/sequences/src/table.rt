@@ -1,25 +1,33 @@
 // A table of rows, none of which is impossible.
-ghost use Rattle.std.specs.Prelude.{◌≡◌, ℕ, ◌<◌, ◌≤◌, length, take, slice_index_or};
-ghost use Rattle.sequences.specs.Dates.{HappensByTicks};
-ghost use Rattle.sequences.specs.Lines.{line};
-ghost use Rattle.sequences.specs.Rows.{absent, padded};
-ghost use Rattle.sequences.specs.Walks.{Impossible, Sound};
-
 use crate::row::Row;
+use std::marker::Model;
 
+mod closing;
 mod date;
 mod methods;
 
-// At most 64 rows; the unused ones are blank. No row is impossible, and each happens under some dating by ticks. That each line fits into 512 bytes holds because a table is only made from
-// a text, which has at most 511, and the line of a sequence is at most one byte longer than the text that it stands in.
-#[derive(Clone, Copy)]
+// At most 64 rows in fixed memory, so an array and a count; the unused rows are blank. Clauses see the list of the rows. That each line fits into 512 bytes holds
+// because a table is only made from a text, which has at most 511, and the line of a sequence is at most one byte longer
+// than the text that it stands in.
+#[derive(Clone, Copy, Debug)]
 pub struct Table {
     rows: [Row; 64],
     len: usize,
-    ghost few: { len ≤ 64 },
-    ghost filled: { rows ≡ padded 64 (take len rows) },
-    ghost sound: { (k : ℕ) → k < len → ∥ Sound (slice_index_or rows k absent) ∥₁ },
-    ghost possible: { (k : ℕ) → k < len → Impossible (slice_index_or rows k absent) → ⊥ },
-    ghost happens: { (k : ℕ) → k < len → ∥ HappensByTicks (slice_index_or rows k absent) ∥₁ },
-    ghost short: { (k : ℕ) → k < len → length (line (slice_index_or rows k absent)) ≤ 512 },
+}
+
+impl Model for Table {
+    ghost use Rattle.std.specs.Prelude.{List};
+    ghost use Rattle.sequences.specs.declared.row.Row.{Row};
+
+    ghost Value = { List Row };
+
+    ghost use Rattle.sequences.specs.Stored.{Stored, held, stored, stored_held};
+
+    ghost view = { held };
+
+    ghost invariant = { Stored };
+
+    ghost inverse = { stored };
+
+    ghost inverse_ok = { stored_held };
 }

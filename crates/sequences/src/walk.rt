@@ -1,105 +1,59 @@
 // Whether one can walk from a letter of a row back to itself, using at least one '<'.
-ghost use Rattle.std.specs.Prelude.{◌≡◌, ℕ, ◌<◌, ◌&&◌, ◌||◌, T, bit_or};
-ghost use Rattle.sequences.specs.Masks.{has, linked};
-ghost use Rattle.sequences.specs.Rows.{precedes, ties};
+ghost use Rattle.std.specs.Prelude.{◌≡◌, ℕ, ◌<◌, ◌&&◌, Decides};
+ghost use Rattle.sequences.specs.Masks.{linked};
+ghost use Rattle.sequences.specs.Rows.{precedes};
 ghost use Rattle.sequences.specs.Walks.{Closes, Impossible, Low, Sound, any, via};
 
+use crate::letters::{LetterSets, member};
 use crate::row::Row;
 
-// Of each letter, the letters that it links to.
-#[derive(Clone, Copy)]
-pub struct Links {
-    pub of: [u32; 24],
-}
-
-// The letter v is in the set.
-pub fn member(set: u32, v: usize) -> bool
-    requires { v < 24 }
-    ensures { result ≡ has set v }
-{
-    (set >> v) & 1 == 1
-}
-
-// The links, and those by way of k.
-fn passing(links: Links, k: usize) -> Links
-    requires { k < 24 }
-    ensures { (v w : ℕ) → linked result.of v w ≡ via k (linked links.of) v w }
-{
-    let mut out = links;
-    let on = links.of[k];
-    for v in 0..24 {
-        if member(links.of[v], k) {
-            out.of[v] |= on;
-        }
-    }
-    out
-}
-
-// The links closed under going on.
-fn closed(links: Links) -> Links
-    requires { Low (linked links.of) }
-    ensures { Closes (linked links.of) (linked result.of) }
-{
-    let mut reach = links;
-    for k in 0..24 {
-        reach = passing(reach, k);
-    }
-    reach
-}
-
-// The letters of either set.
-fn either(before: u32, ties: u32) -> u32
-    ensures { result ≡ bit_or before ties }
-{
-    before | ties
-}
-
-impl Row {
-    // The pairs as links, ties either way.
-    fn weak(&self) -> Links
-        requires { Sound self.now }
-        ensures { (v w : ℕ) → linked result.of v w ≡ precedes self.now v w || ties self.now v w }
+// Links, which are of each letter the letters that one can go on to, are closed under going on.
+impl LetterSets {
+    // The links, and those by way of k.
+    fn passing(self, k: u8) -> LetterSets
+        requires { k < 24 }
+        ensures { (v w : ℕ) → linked result.of v w ≡ via k (linked self.of) v w }
     {
-        let mut out = Links { of: [0; 24] };
-        for v in 0..24 {
-            out.of[v] = either(self.before.of[v], self.ties.of[v]);
+        let mut out = self;
+        let on = self.of[usize::from(k)];
+        for set in &mut out.of {
+            if member(*set, k) {
+                *set |= on;
+            }
         }
         out
     }
 
-    // One can come back to v from w, which it precedes.
-    fn returns_by(&self, reach: &Links, v: usize, w: usize) -> bool
-        requires { (v < 24) × (w < 24) }
-        ensures { result ≡ (precedes self.now v w && linked reach.now.of w v) }
+    // The links closed under going on. A loop, whose invariant says how far it came: after k turns, one goes on by way of
+    // the letters below k.
+    fn closed(self) -> LetterSets
+        requires { Low (linked self.of) }
+        ensures { Closes (linked self.of) (linked result.of) }
     {
-        member(self.before.of[v], w) && member(reach.of[w], v)
+        let mut reach = self;
+        for k in 0..24 {
+            reach = reach.passing(k);
+        }
+        reach
     }
+}
 
+impl Row {
     // One can come back to v from a letter that it precedes.
-    fn returns_to(&self, reach: &Links, v: usize) -> bool
+    fn returns_to(&self, reach: &LetterSets, v: u8) -> bool
         requires { v < 24 }
         ensures { result ≡ any 24 (λ w. precedes self.now v w && linked reach.now.of w v) }
     {
-        for w in 0..24 {
-            if self.returns_by(reach, v, w) {
-                return true;
-            }
-        }
-        false
+        (0..24).any(|w| self.before.has(v, w) && reach.has(w, v))
     }
 
-    // One can walk from a letter back to itself along '<' and '=', using at least one '<'.
+    // One can walk from a letter back to itself along '<' and '=', using at least one '<'. That the row is sound is asked
+    // for this question alone, and a table keeps it for its rows.
     pub fn impossible(&self) -> bool
         requires { Sound self.now }
-        ensures yes { T result → Impossible self.now }
-        ensures no { Impossible self.now → T result }
+        ensures { Decides result (Impossible self.now) }
     {
-        let reach = closed(self.weak());
-        for v in 0..24 {
-            if self.returns_to(&reach, v) {
-                return true;
-            }
-        }
-        false
+        let reach = self.before.union(&self.ties).closed();
+        (0..24).any(|v| self.returns_to(&reach, v))
     }
 }

@@ -1,47 +1,28 @@
 -- The answer to a step, case by case, and that there is only one.
 -- Assumes nothing.
-use Rattle.std.proofs.Common.{◌≡◌, ℕ, ◌<◌, ◌≤◌, Bool, true, false, cond, not, ◌&&◌, eqb, List, length, is_some, IfOk, Some, None, Ok, Err, Option, Result, sym, refl, ap, ◌∙◌, subst, arith, Bor}
+use Rattle.std.proofs.Common.{◌≡◌, ℕ, ◌<◌, ◌≤◌, Bool, true, false, not, ◌&&◌, List, length, is_some, IfOk, Some, None, Ok, Err, Option, Result, sym, refl, ap, ◌∙◌, subst, arith, Bor}
 use Rattle.algebra.specs.Refusals.{Refused, Granted, Answers}
 use Rattle.algebra.specs.Steps.{Derived}
 use Rattle.algebra.specs.Terms.{Term}
 use Rattle.algebra.specs.Texts.{Whole}
 use Rattle.algebra.specs.Rules.{has}
 use Rattle.algebra.specs.declared.Variable.{Variable}
-use Rattle.algebra.specs.declared.Variable.TheVariants.{X, Y, Z}
 use Rattle.algebra.proofs.Refusals.{one_answer}
-use Rattle.texts.specs.Held.{used}
-use Rattle.texts.specs.declared.text.Text.{Text}
-use Rattle.texts.proofs.Grow.{used_short}
-use Rattle.steps.specs.Refusals.{step_code}
+use Rattle.steps.specs.Refusals.{step_code, step_codes_differ}
 use Rattle.steps.specs.Records.{Request, Says, WholeTerm, supplied_for}
 use Rattle.steps.specs.Readings.{bytes_of, request_of}
 use Rattle.steps.specs.Sides.{slot, Holds}
 use Rattle.steps.specs.Rewrites.{OfTerm, Provided, Instance, Rewritten}
-use Rattle.steps.specs.Stepping.{Fits, SuppliesLacked, Spells, StepAsks, StepMakes, StepAnswer, OneAnswer, StepsOn, text_in, old_of, new_of}
+use Rattle.steps.specs.Stepping.{Fits, SuppliesLacked, Spells, StepAsks, StepMakes, StepAnswer, OneAnswer, StepsOn, old_of, new_of}
 use Rattle.steps.specs.declared.record.StepRecord.{StepRecord}
 use Rattle.steps.specs.declared.refusal.StepRefusal.{StepRefusal}
 use Rattle.steps.specs.declared.refusal.StepRefusal.TheVariants.{NoTree, Form, Supplies, Place, NoFit, TooLong}
 use Rattle.steps.proofs.Fields.{says_one}
 use Rattle.steps.proofs.Fitting.{fits_one, lacked, steps_on, derives_on, stays_whole}
-
--- the numbers tell the refusals apart
-of_code : ℕ → StepRefusal
-of_code n = cond (eqb n 11) NoTree (cond (eqb n 12) Form (cond (eqb n 13) Supplies (cond (eqb n 14) Place (cond (eqb n 15) NoFit TooLong))))
-
-code_back : (e : StepRefusal) → of_code (step_code e) ≡ e
-unfolding of_code
-code_back NoTree = refl
-code_back Form = refl
-code_back Supplies = refl
-code_back Place = refl
-code_back NoFit = refl
-code_back TooLong = refl
-
-codes_apart : (e f : StepRefusal) → step_code e ≡ step_code f → e ≡ f
-codes_apart e f h = sym (code_back e) ∙ ap of_code h ∙ code_back f
+use Rattle.steps.proofs.Letters.{supplied_is}
 
 pub one_step_answer : (Tree : Type 0) (old : List ℕ) (events : ℕ) (bs : List ℕ) (r s : Result (List ℕ) StepRefusal) → Answers step_code (StepAsks Tree old events bs) (StepMakes old events bs) r → Answers step_code (StepAsks Tree old events bs) (StepMakes old events bs) s → r ≡ s
-one_step_answer Tree old events bs = one_answer step_code (StepAsks Tree old events bs) (StepMakes old events bs) codes_apart one
+one_step_answer Tree old events bs = one_answer step_code (StepAsks Tree old events bs) (StepMakes old events bs) step_codes_differ one
   where
     one : Granted (StepAsks Tree old events bs) → (x y : List ℕ) → StepMakes old events bs x → StepMakes old events bs y → x ≡ y
     one g x y (p, s, f) (q, t, h) =
@@ -177,11 +158,6 @@ module _ (old : List ℕ) (events : ℕ) (bs : List ℕ) (q : Request) (says : S
 
 -- the borrowed terms of a record, and what it says
 
-supplied_is : (s : StepRecord) (v : Variable) → supplied_for (request_of s) v ≡ bytes_of (slot s.supplied v)
-supplied_is s X = refl
-supplied_is s Y = refl
-supplied_is s Z = refl
-
 some_bytes : (o : Option (Bor (List ℕ))) → is_some (bytes_of o) ≡ is_some o
 some_bytes None = refl
 some_bytes (Some w) = refl
@@ -231,24 +207,24 @@ made_fits old s new i = record {
 }
 
 -- the answer, and what it means for the text
-pub record Answered (old : List ℕ) (events : ℕ) (bs : List ℕ) (r : Result Text StepRefusal) : Type 0 where
-  pub answer : StepAnswer old events bs (text_in r)
-  pub whole : IfOk r (λ new. Whole events old → Whole events (used new))
-  pub step : IfOk r (λ new. StepsOn old (used new))
-  pub derived : IfOk r (λ new. (cs : List ℕ) → Derived cs old → Derived cs (used new))
+pub record Answered (old : List ℕ) (events : ℕ) (bs : List ℕ) (r : Result (List ℕ) StepRefusal) : Type 0 where
+  pub answer : StepAnswer old events bs r
+  pub whole : IfOk r (λ new. Whole events old → Whole events new)
+  pub step : IfOk r (λ new. StepsOn old new)
+  pub derived : IfOk r (λ new. (cs : List ℕ) → Derived cs old → Derived cs new)
 
-pub answered : (old : List ℕ) (events : ℕ) (bs : List ℕ) (s : StepRecord) → Says events bs (request_of s) → Tested s → s.place < length old → (r : Result Text StepRefusal) → Rewritten old s.place (old_of (request_of s)) (new_of (request_of s)) s.supplied r → Answered old events bs r
-answered old events bs s says h inside (Ok new) IfOk =
+pub answered : (old : List ℕ) (events : ℕ) (bs : List ℕ) (s : StepRecord) → Says events bs (request_of s) → Tested s → s.place < length old → (r : Result (List ℕ) StepRefusal) → IfOk r (λ new. length new ≤ 511) → Rewritten old s.place (old_of (request_of s)) (new_of (request_of s)) s.supplied r → Answered old events bs r
+answered old events bs s says h inside (Ok new) short made =
     let q = request_of s in
-    let fits = made_fits old s (used new) IfOk in
+    let fits = made_fits old s new made in
     let lacks = tested_lacks s h in
     record {
-      answer = granted old events bs q says lacks inside (used new) fits (used_short new);
-      whole = stays_whole old q (used new) says.number inside fits events lacks says.terms;
-      step = steps_on old q (used new) says.number inside fits;
-      derived = derives_on old q (used new) says.number inside fits;
+      answer = granted old events bs q says lacks inside new fits short;
+      whole = stays_whole old q new says.number inside fits events lacks says.terms;
+      step = steps_on old q new says.number inside fits;
+      derived = derives_on old q new says.number inside fits;
     }
-answered old events bs s says h inside (Err NoFit) none =
+answered old events bs s says h inside (Err NoFit) short none =
     let q = request_of s in
     record {
       answer = no_fit old events bs q says (tested_lacks s h) inside (λ new f. none f.choice f.rest f.here);
@@ -256,7 +232,7 @@ answered old events bs s says h inside (Err NoFit) none =
       step = tt;
       derived = tt;
     }
-answered old events bs s says h inside (Err TooLong) long =
+answered old events bs s says h inside (Err TooLong) short long =
     let q = request_of s in
     record {
       answer = too_long old events bs q says (tested_lacks s h) inside long.0 (made_fits old s long.0 long.1.0) long.1.1;
@@ -264,10 +240,10 @@ answered old events bs s says h inside (Err TooLong) long =
       step = tt;
       derived = tt;
     }
-answered old events bs s says h inside (Err NoTree) none = absurd none
-answered old events bs s says h inside (Err Form) none = absurd none
-answered old events bs s says h inside (Err Supplies) none = absurd none
-answered old events bs s says h inside (Err Place) none = absurd none
+answered old events bs s says h inside (Err NoTree) short none = absurd none
+answered old events bs s says h inside (Err Form) short none = absurd none
+answered old events bs s says h inside (Err Supplies) short none = absurd none
+answered old events bs s says h inside (Err Place) short none = absurd none
 
 -- a refusal says nothing of a new text
 pub refused : (old : List ℕ) (events : ℕ) (bs : List ℕ) (e : StepRefusal) → Refused step_code (StepAsks (Unit {0}) old events bs) e → Answered old events bs (Err e)

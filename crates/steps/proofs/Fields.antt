@@ -1,14 +1,17 @@
 -- The fields of a step record are read in one way only, one bit after the other.
 -- Assumes nothing.
-use Rattle.std.proofs.Common.{◌≡◌, ℕ, zero, suc, ◌+◌, ◌-◌, ◌<◌, ◌≤◌, Bool, true, false, List, [], ◌∷◌, ◌++◌, length, take, drop, sym, refl, ap, ◌∙◌, subst, arith}
-use Rattle.std.proofs.lemmas.List.{take_at, drop_at, length-append}
+use Rattle.std.proofs.Common.{◌≡◌, ℕ, zero, suc, ◌+◌, ◌<◌, ◌≤◌, Bool, true, false, List, [], ◌∷◌, ◌++◌, length, get_or, take, drop, sym, refl, ap, ◌∙◌, subst, arith}
+use Rattle.std.proofs.lemmas.List.{take_at, drop_at}
+use Rattle.algebra.specs.Conversions.{way_byte}
 use Rattle.algebra.specs.Rules.{variable_byte}
 use Rattle.algebra.specs.declared.Variable.{Variable}
 use Rattle.algebra.specs.declared.Variable.TheVariants.{X, Y, Z}
 use Rattle.algebra.specs.declared.Way.{Way}
 use Rattle.algebra.specs.declared.Way.TheVariants.{Forward, Backward}
-use Rattle.steps.specs.Records.{Request, Field, the_rule, the_way, the_place, the_term, bit_of, bits, bit_stands, blank, put, way_byte, FieldAt, Next, Fields, Says, WholeTerm, supplied_for}
-use Rattle.steps.proofs.Fronts.{cut, cut_length}
+use Rattle.steps.specs.Records.{Request, Field, the_rule, the_way, the_place, the_term, bit_of, bits, bit_stands, blank, put, FieldAt, Next, Fields, Says, WholeTerm, supplied_for}
+use Rattle.steps.specs.Readings.{kind_bit}
+use Rattle.steps.specs.declared.record.FieldKind.{FieldKind}
+use Rattle.steps.specs.declared.record.FieldKind.TheVariants.{Rule as KindRule, Way as KindWay, Place as KindPlace, Supply as KindSupply}
 use Rattle.steps.proofs.Taken.{high, same_letter}
 
 -- the bit of a term goes by its letter
@@ -17,32 +20,11 @@ bit_is X t = refl
 bit_is Y t = refl
 bit_is Z t = refl
 
-same_bit : (v : Variable) (s t : List ℕ) → bit_of (the_term v s) ≡ bit_of (the_term v t)
-same_bit v s t = omega (arith, bit_is v s, bit_is v t)
-
 term_bit : (v : Variable) (t : List ℕ) → 3 ≤ bit_of (the_term v t)
 term_bit v t = omega (arith, bit_is v t, high v)
 
 bit_letter : (u v : Variable) (s t : List ℕ) → bit_of (the_term u s) ≡ bit_of (the_term v t) → u ≡ v
 bit_letter u v s t e = same_letter u v (omega (arith, bit_is u s, bit_is v t))
-
--- a supplied term was read
-pub supply_read : (v : Variable) (t bs : List ℕ) (n : ℕ) (rest : List ℕ) → bs ≡ n ∷ rest → n ≤ 255 → (1 ≤ n) × (n ≤ length rest) → FieldAt (bit_of (the_term v t)) bs (the_term v (take (n - 0) rest)) (take (length rest - n) (drop n rest))
-supply_read v t bs n rest e small (some, fits) =
-    let size = cut_length n rest fits in
-    (same_bit v t (take (n - 0) rest), (omega arith, omega arith, e ∙ (λ k. size k ∷ cut n rest fits k)))
-
--- no supplied term stands where the length is wrong
-pub supply_none : (v : Variable) (t bs : List ℕ) (n : ℕ) (rest : List ℕ) → bs ≡ n ∷ rest → ((1 ≤ n) × (n ≤ length rest) → ⊥) → (f : Field) (after : List ℕ) → FieldAt (bit_of (the_term v t)) bs f after → ⊥
-supply_none v t bs n rest e wrong (the_rule m) after w = omega (arith, term_bit v t, w.0)
-supply_none v t bs n rest e wrong (the_way m) after w = omega (arith, term_bit v t, w.0)
-supply_none v t bs n rest e wrong (the_place m) after w = omega (arith, term_bit v t, w.0)
-supply_none v t bs n rest e wrong (the_term u s) after w =
-    let is : bs ≡ length s ∷ (s ++ after) = w.1.2 in
-    let head : n ≡ length s = cc in
-    let tail : rest ≡ s ++ after = cc in
-    let low : 1 ≤ length s = w.1.0 in
-    wrong (omega arith, omega (arith, ap length tail, length-append s after))
 
 same_way : (v w : Way) → way_byte v ≡ way_byte w → v ≡ w
 same_way Forward Forward e = refl
@@ -109,12 +91,6 @@ pub record Remaining (map : ℕ) (bs todo : List ℕ) (q : Request) (rest : List
   pub to : (p : Request) → Fields map bits blank bs p → Fields map todo q rest p
   pub from : (p : Request) → Fields map todo q rest p → Fields map bits blank bs p
 
-pub remaining_all : (map : ℕ) (bs : List ℕ) (q : Request) → q ≡ blank → Remaining map bs bits q bs
-remaining_all map bs q e = record {
-  to = λ p w. subst (λ (x : Request). Fields map bits x bs p) (sym e) w;
-  from = λ p w. subst (λ (x : Request). Fields map bits x bs p) e w;
-}
-
 drop_bits : (bit : ℕ) → bit < 6 → drop bit bits ≡ bit ∷ drop (bit + 1) bits
 drop_bits zero h = refl
 drop_bits (suc zero) h = refl
@@ -137,11 +113,31 @@ module _ (map : ℕ) (bs : List ℕ) (bit : ℕ) (h : bit < 6) (q : Request) (re
       let go = subst (λ (l : List ℕ). Fields map l q rest p) (drop_bits bit h) (inv.to p w) in
       none go.0 go.1 go.2
 
--- all bits were read
-pub remaining_done : (map : ℕ) (bs : List ℕ) (bit : ℕ) (q : Request) (rest : List ℕ) → bit ≡ 6 → Remaining map bs (drop bit bits) q rest → rest ≡ [] → Fields map bits blank bs q
-remaining_done map bs bit q rest e inv none =
-    inv.from q (subst (λ (n : ℕ). Fields map (drop n bits) q rest q) (sym e) (none, refl))
+-- the kinds of the fields, in the order of their bits
+abbrev pub kinds : List FieldKind
+kinds = KindRule ∷ KindWay ∷ KindPlace ∷ KindSupply X ∷ KindSupply Y ∷ KindSupply Z ∷ []
 
+pub kind_at : (bit : ℕ) (d : FieldKind) → bit < 6 → kind_bit (get_or kinds bit d) ≡ bit
+kind_at zero d h = refl
+kind_at (suc zero) d h = refl
+kind_at (suc (suc zero)) d h = refl
+kind_at (suc (suc (suc zero))) d h = refl
+kind_at (suc (suc (suc (suc zero)))) d h = refl
+kind_at (suc (suc (suc (suc (suc zero))))) d h = refl
+kind_at (suc (suc (suc (suc (suc (suc n)))))) d h = absurd (omega arith)
+
+-- a field stands at a bit as its kind says, where the bit stands
+pub at_bit : (given : Bool) (bit n : ℕ) (q : Request) (bs : List ℕ) (p : Request) (rest : List ℕ) → given ≡ true → n ≡ bit → Next true n q bs p rest → Next given bit q bs p rest
+at_bit given bit n q bs p rest stands is next = subst (λ (b : Bool). Next b bit q bs p rest) (sym stands) (subst (λ (k : ℕ). Next true k q bs p rest) is next)
+
+pub of_kind : (given : Bool) (bit n : ℕ) (q : Request) (bs : List ℕ) (p : Request) (rest : List ℕ) → given ≡ true → n ≡ bit → Next given bit q bs p rest → Next true n q bs p rest
+of_kind given bit n q bs p rest stands is next = subst (λ (k : ℕ). Next true k q bs p rest) (sym is) (subst (λ (b : Bool). Next b bit q bs p rest) stands next)
+
+-- where the bit does not stand, nothing is read
+pub no_bit : (given : Bool) (bit : ℕ) (q : Request) (bs : List ℕ) → given ≡ false → Next given bit q bs q bs
+no_bit given bit q bs none = subst (λ (b : Bool). Next b bit q bs q bs) (sym none) (refl, refl)
+
+-- all bits were read
 pub remaining_left : (map : ℕ) (bs : List ℕ) (bit : ℕ) (q : Request) (rest : List ℕ) → bit ≡ 6 → Remaining map bs (drop bit bits) q rest → (rest ≡ [] → ⊥) → (p : Request) → Fields map bits blank bs p → ⊥
 remaining_left map bs bit q rest e inv some p w =
     let end = subst (λ (n : ℕ). Fields map (drop n bits) q rest p) e (inv.to p w) in

@@ -1,6 +1,7 @@
 pub mod Taken
 pub mod Tables
 pub mod Fronts
+pub mod Options
 pub mod Letters
 pub mod Fields
 pub mod Spelt

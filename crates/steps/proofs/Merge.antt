@@ -1,6 +1,6 @@
 -- The matched terms and the supplied terms together, and the new text in three parts.
 -- Assumes nothing.
-use Rattle.std.proofs.Common.{◌≡◌, ℕ, ◌<◌, Bool, true, false, List, [], ◌++◌, length, take, drop, is_some, Some, None, Option, sym, refl, ap, ◌∙◌, subst, append_assoc, arith, length-append, Bor}
+use Rattle.std.proofs.Common.{◌≡◌, ℕ, ◌+◌, ◌<◌, Bool, true, false, List, [], ◌++◌, length, take, drop, is_some, Some, None, Option, sym, refl, ap, ◌∙◌, subst, append_assoc, arith, length-append, Bor}
 use Rattle.std.proofs.lemmas.Bool.{eq-eqb}
 use Rattle.algebra.specs.Terms.{Term, leaf, never, node, inst}
 use Rattle.algebra.specs.Texts.{text_of}
@@ -54,35 +54,34 @@ merged from to text b sup all rest fit supplied joined =
     }
 
 -- the new text in three parts
-module _ (old : List ℕ) (p : ℕ) (from to : Term Variable) (all sup : Binding) (rest part u₀ u₁ : List ℕ) (both : Both from (drop p old) all sup rest) (none : u₀ ≡ []) (front : part ≡ take p old) where
+module _ (old : List ℕ) (p : ℕ) (from to : Term Variable) (all sup : Binding) (rest u₀ u₁ front : List ℕ) (both : Both from (drop p old) all sup rest) (none : u₀ ≡ []) (before : front ≡ take p old) where
   abbrev new : List ℕ
   new = take p old ++ (text_of (inst both.choice to) ++ rest)
 
   made : Instance old p from to sup new
   made = record { choice = both.choice; rest = rest; agrees = both.some; before = both.matches; after = refl }
 
-  first : u₁ ≡ u₀ ++ part → u₁ ≡ take p old
-  first e = e ∙ (λ k. none k ++ front k)
+  first : u₁ ≡ u₀ ++ front → u₁ ≡ take p old
+  first e = e ∙ (λ k. none k ++ before k)
 
-  pub complete : (u₂ u₃ : List ℕ) → u₁ ≡ u₀ ++ part → ((σ : Variable → Term ℕ) → Agrees all σ → u₂ ≡ u₁ ++ text_of (inst σ to)) → u₃ ≡ u₂ ++ rest → Instance old p from to sup u₃
+  pub complete : (u₂ u₃ : List ℕ) → u₁ ≡ u₀ ++ front → ((σ : Variable → Term ℕ) → Agrees all σ → u₂ ≡ u₁ ++ text_of (inst σ to)) → u₃ ≡ u₂ ++ rest → Instance old p from to sup u₃
   complete u₂ u₃ a b c =
       let is : u₃ ≡ new = c ∙ ap (λ (l : List ℕ). l ++ rest) (b both.choice both.whole ∙ ap (λ (l : List ℕ). l ++ text_of (inst both.choice to)) (first a)) ∙ append_assoc (take p old) (text_of (inst both.choice to)) rest in
       subst (Instance old p from to sup) (sym is) made
 
-  pub long_front : 511 < length (u₀ ++ part) → (l : List ℕ) × (Instance old p from to sup l × (511 < length l))
+  pub long_front : 511 < length u₀ + length front → (l : List ℕ) × (Instance old p from to sup l × (511 < length l))
   long_front h =
-      let e : u₀ ++ part ≡ take p old = (λ k. none k ++ front k) in
-      (new, (made, omega (arith, ap length e, length-append (take p old) (text_of (inst both.choice to) ++ rest))))
+      (new, (made, omega (arith, h, ap length none, ap length before, length-append (take p old) (text_of (inst both.choice to) ++ rest))))
 
-  pub long_side : u₁ ≡ u₀ ++ part → ((σ : Variable → Term ℕ) → Agrees all σ → 511 < length (u₁ ++ text_of (inst σ to))) → (l : List ℕ) × (Instance old p from to sup l × (511 < length l))
+  pub long_side : u₁ ≡ u₀ ++ front → ((σ : Variable → Term ℕ) → Agrees all σ → 511 < length (u₁ ++ text_of (inst σ to))) → (l : List ℕ) × (Instance old p from to sup l × (511 < length l))
   long_side a h =
       let w = text_of (inst both.choice to) in
       (new, (made, omega (arith, h both.choice both.whole, ap length (first a), length-append u₁ w, length-append (take p old) (w ++ rest), length-append w rest)))
 
-  pub long_rest : (u₂ : List ℕ) → u₁ ≡ u₀ ++ part → ((σ : Variable → Term ℕ) → Agrees all σ → u₂ ≡ u₁ ++ text_of (inst σ to)) → 511 < length (u₂ ++ rest) → (l : List ℕ) × (Instance old p from to sup l × (511 < length l))
+  pub long_rest : (u₂ : List ℕ) → u₁ ≡ u₀ ++ front → ((σ : Variable → Term ℕ) → Agrees all σ → u₂ ≡ u₁ ++ text_of (inst σ to)) → 511 < length u₂ + length rest → (l : List ℕ) × (Instance old p from to sup l × (511 < length l))
   long_rest u₂ a b h =
       let w = text_of (inst both.choice to) in
-      (new, (made, omega (arith, ap length (b both.choice both.whole), ap length (first a), length-append u₁ w, length-append u₂ rest, length-append (take p old) (w ++ rest), length-append w rest)))
+      (new, (made, omega (arith, h, ap length (b both.choice both.whole), ap length (first a), length-append u₁ w, length-append (take p old) (w ++ rest), length-append w rest)))
 
 -- each letter of the new side is bound
 pub all_bound : (from to : Term Variable) (text : List ℕ) (b sup all : Binding) (rest : List ℕ) → Fitted from text b rest → Provided from to sup → ((v : Variable) → slot all v ≡ either (slot b v) (slot sup v)) → (v : Variable) → has v to ≡ true → is_some (slot all v) ≡ true

@@ -1,19 +1,16 @@
 -- The steps of a file, one after the other.
 -- Assumes nothing.
-use Rattle.std.proofs.Common.{◌≡◌, ℕ, ◌+◌, ◌-◌, ◌*◌, ◌<◌, ◌≤◌, List, [], ◌∷◌, ◌++◌, length, take, drop, IfOk, Some, None, Ok, Err, Option, Result, sym, refl, ap, ◌∙◌, subst, arith, Bor}
-use Rattle.std.proofs.lemmas.List.{take_at, drop_at, length-append}
+use Rattle.std.proofs.Common.{◌≡◌, ℕ, ◌+◌, ◌*◌, ◌<◌, List, [], ◌∷◌, ◌++◌, length, take, drop, IfOk, Ok, Err, Result, sym, refl, ap, ◌∙◌, subst, arith}
+use Rattle.std.proofs.lemmas.List.{take_at, drop_at, length-append, take-append-drop}
+use Rattle.std.specs.List.{IsSplitAt}
 use Rattle.algebra.specs.Steps.{Derived}
 use Rattle.algebra.specs.Texts.{Whole}
-use Rattle.texts.specs.Held.{used}
-use Rattle.texts.specs.declared.text.Text.{Text}
-use Rattle.steps.specs.Files.{Begins, CutOff, NextRecord, OneRecord, OneRun, Runs, ended, went, refused, cut, fault_at, answer_at}
-use Rattle.steps.specs.Stepping.{StepAnswer, text_in}
+use Rattle.steps.specs.Files.{Begins, CutOff, OneRecord, OneRun, Runs, ended, went, refused, cut, fault_at, answer_at}
+use Rattle.steps.specs.Stepping.{StepAnswer}
 use Rattle.steps.specs.declared.file.StepFault.{StepFault}
 use Rattle.steps.specs.declared.refusal.StepRefusal.{StepRefusal}
 use Rattle.steps.specs.declared.refusal.StepRefusal.TheVariants.{Form}
 use Rattle.steps.proofs.Answering.{step_one}
-use Rattle.steps.proofs.Fronts as fronts
-use Rattle.steps.proofs.Fronts.{cut_length}
 
 pub one_record : (file : List ℕ) → OneRecord file
 one_record file bs rest cs more a b =
@@ -28,31 +25,12 @@ one_record file bs rest cs more a b =
     )
 
 -- a record was read
-pub begins : (file : List ℕ) (high low n : ℕ) (tail : List ℕ) → file ≡ high ∷ (low ∷ tail) → n ≡ 256 * high + low → n ≤ length tail → Begins file (take (n - 0) tail) (take (length tail - n) (drop n tail))
-begins file high low n tail e is fits = record {
+pub begins : (file : List ℕ) (high low n : ℕ) (tail front back : List ℕ) → file ≡ high ∷ (low ∷ tail) → n ≡ 256 * high + low → IsSplitAt tail n front back → Begins file front back
+begins file high low n tail front back e is (fits, first, second, size, rest) = record {
   high = high;
   low = low;
-  bytes = e ∙ ap (λ (l : List ℕ). high ∷ (low ∷ l)) (fronts.cut n tail fits);
-  size = sym (cut_length n tail fits) ∙ is;
-}
-
--- the file ends before its record does
-pub cut_short : (file : List ℕ) (high low n : ℕ) (tail : List ℕ) → file ≡ high ∷ (low ∷ tail) → n ≡ 256 * high + low → length tail < n → CutOff file
-cut_short file high low n tail e is long = record {
-  some = λ none. let z : ◌≡◌ {A = ℕ} 0 1 = cc in omega arith;
-  none = λ bs rest b.
-      let x = b.bytes in
-      let h : high ≡ b.high = cc in
-      let l : low ≡ b.low = cc in
-      let t : tail ≡ bs ++ rest = cc in
-      omega (arith, b.size, ap length t, length-append bs rest);
-}
-
--- one byte is no length
-pub cut_one : (file : List ℕ) → length file ≡ 1 → CutOff file
-cut_one file e = record {
-  some = λ none. omega (arith, ap length none);
-  none = λ bs rest b. omega (arith, ap length b.bytes);
+  bytes = e ∙ ap (λ (l : List ℕ). high ∷ (low ∷ l)) (sym (take-append-drop n tail)) ∙ (λ k. high ∷ (low ∷ (sym first k ++ sym second k)));
+  size = size ∙ is;
 }
 
 runs_one : (events n : ℕ) (old file : List ℕ) (r s : Result (List ℕ) StepFault) → Runs events n old file r → Runs events n old file s → r ≡ s
@@ -91,21 +69,16 @@ pub one_run : (events : ℕ) (old file : List ℕ) → OneRun events old file
 one_run events old file r s a b = runs_one events 1 old file r s a b
 
 -- so far steps led from the text first to the text present, and this is left of the file
-pub record Running (events : ℕ) (first : Text) (file : List ℕ) (n : ℕ) (present : Text) (left : List ℕ) : Type 0 where
-  pub on : (r : Result (List ℕ) StepFault) → Runs events n (used present) left r → Runs events 1 (used first) file r
-  pub whole : Whole events (used first) → Whole events (used present)
-  pub derived : (bs : List ℕ) → Derived bs (used first) → Derived bs (used present)
-  pub count : 2 * n + length left ≤ 2 + length file
+pub record Running (events : ℕ) (first : List ℕ) (file : List ℕ) (n : ℕ) (present : List ℕ) (left : List ℕ) : Type 0 where
+  pub on : (r : Result (List ℕ) StepFault) → Runs events n present left r → Runs events 1 first file r
+  pub whole : Whole events first → Whole events present
+  pub derived : (bs : List ℕ) → Derived bs first → Derived bs present
 
-pub running_start : (events : ℕ) (first : Text) (file : List ℕ) → Running events first file 1 first file
-running_start events first file = record { on = λ r w. w; whole = λ w. w; derived = λ bs d. d; count = omega arith }
-
-pub running_more : (events : ℕ) (first : Text) (file : List ℕ) (n : ℕ) (present : Text) (left : List ℕ) → Running events first file n present left → (bs rest : List ℕ) (new : Text) → Begins left bs rest → StepAnswer (used present) events bs (Ok (used new)) → (Whole events (used present) → Whole events (used new)) → ((cs : List ℕ) → Derived cs (used present) → Derived cs (used new)) → Running events first file (n + 1) new rest
+pub running_more : (events : ℕ) (first : List ℕ) (file : List ℕ) (n : ℕ) (present : List ℕ) (left : List ℕ) → Running events first file n present left → (bs rest : List ℕ) (new : List ℕ) → Begins left bs rest → StepAnswer present events bs (Ok new) → (Whole events present → Whole events new) → ((cs : List ℕ) → Derived cs present → Derived cs new) → Running events first file (n + 1) new rest
 running_more events first file n present left inv bs rest new b a whole derived = record {
-  on = λ r w. inv.on r (went n (used present) left r bs rest (used new) b a w);
+  on = λ r w. inv.on r (went n present left r bs rest new b a w);
   whole = λ w. whole (inv.whole w);
   derived = λ cs d. derived cs (inv.derived cs d);
-  count = omega (arith, inv.count, ap length b.bytes, length-append bs rest);
 }
 
 -- what an answer with a number was without it
@@ -119,35 +92,26 @@ answer_ok n (Ok y) x h = let same : y ≡ x = cc in ap Ok same
 answer_ok n (Err e) x h = let z : ◌≡◌ {A = ℕ} 0 1 = cc in absurd (omega arith)
 
 -- the ways out of the loop, and round it
-module _ (events : ℕ) (first : Text) (file : List ℕ) (n : ℕ) (present : Text) (left : List ℕ) (inv : Running events first file n present left) where
-  pub run_cut : (a : Result (Option (Bor (List ℕ) × Bor (List ℕ))) StepRefusal) (f : StepFault) → NextRecord left a → answer_at n a ≡ Err f → Runs events 1 (used first) file (Err f)
-  run_cut a f next h =
-      let e = answer_err n a f h in
-      let why : (e.0 ≡ Form) × CutOff left = subst (NextRecord left) e.1 next in
-      inv.on (Err f) (cut n (used present) left (Err f) why.1 (ap Err e.2 ∙ ap (λ (x : StepRefusal). Err (fault_at n x)) why.0))
+module _ (events : ℕ) (first : List ℕ) (file : List ℕ) (n : ℕ) (present : List ℕ) (left : List ℕ) (inv : Running events first file n present left) where
+  pub run_cut : (f : StepFault) → f ≡ fault_at n Form → CutOff left → Runs events 1 first file (Err f)
+  run_cut f is end = inv.on (Err f) (cut n present left (Err f) end (ap Err is))
 
-  pub run_refused : (bs rest : List ℕ) (a : Result Text StepRefusal) (f : StepFault) → Begins left bs rest → StepAnswer (used present) events bs (text_in a) → answer_at n a ≡ Err f → Runs events 1 (used first) file (Err f)
+  pub run_refused : (bs rest : List ℕ) (a : Result (List ℕ) StepRefusal) (f : StepFault) → Begins left bs rest → StepAnswer present events bs a → answer_at n a ≡ Err f → Runs events 1 first file (Err f)
   run_refused bs rest a f b answer h =
       let e = answer_err n a f h in
-      let why = subst (λ (x : Result Text StepRefusal). StepAnswer (used present) events bs (text_in x)) e.1 answer in
-      inv.on (Err f) (refused n (used present) left (Err f) bs rest e.0 b why (ap Err e.2))
+      let why = subst (λ (x : Result (List ℕ) StepRefusal). StepAnswer present events bs x) e.1 answer in
+      inv.on (Err f) (refused n present left (Err f) bs rest e.0 b why (ap Err e.2))
 
-  pub run_ended : (a : Result (Option (Bor (List ℕ) × Bor (List ℕ))) StepRefusal) (o : Option (Bor (List ℕ) × Bor (List ℕ))) → NextRecord left a → answer_at n a ≡ Ok o → o ≡ None → Runs events 1 (used first) file (Ok (used present))
-  run_ended a o next h none =
-      let end : left ≡ [] = subst (NextRecord left) (answer_ok n a o h ∙ ap Ok none) next in
-      inv.on (Ok (used present)) (ended n (used present) left (Ok (used present)) end refl)
+  pub run_ended : left ≡ [] → Runs events 1 first file (Ok present)
+  run_ended end = inv.on (Ok present) (ended n present left (Ok present) end refl)
 
-  pub run_more : (bs rest : List ℕ) (a : Result Text StepRefusal) (new : Text) → Begins left bs rest → StepAnswer (used present) events bs (text_in a) → IfOk a (λ x. Whole events (used present) → Whole events (used x)) → IfOk a (λ x. (cs : List ℕ) → Derived cs (used present) → Derived cs (used x)) → answer_at n a ≡ Ok new → Running events first file (n + 1) new rest
+  pub run_more : (bs rest : List ℕ) (a : Result (List ℕ) StepRefusal) (new : List ℕ) → Begins left bs rest → StepAnswer present events bs a → IfOk a (λ x. Whole events present → Whole events x) → IfOk a (λ x. (cs : List ℕ) → Derived cs present → Derived cs x) → answer_at n a ≡ Ok new → Running events first file (n + 1) new rest
   run_more bs rest a new b answer whole derived h =
       let e = answer_ok n a new h in
       running_more events first file n present left inv bs rest new b
-      (subst (λ (x : Result Text StepRefusal). StepAnswer (used present) events bs (text_in x)) e answer)
-      (subst (λ (x : Result Text StepRefusal). IfOk x (λ y. Whole events (used present) → Whole events (used y))) e whole)
-      (subst (λ (x : Result Text StepRefusal). IfOk x (λ y. (cs : List ℕ) → Derived cs (used present) → Derived cs (used y))) e derived)
-
--- the record that stands first
-pub next_some : (n : ℕ) (left : List ℕ) (a : Result (Option (Bor (List ℕ) × Bor (List ℕ))) StepRefusal) (o : Option (Bor (List ℕ) × Bor (List ℕ))) (p : Bor (List ℕ) × Bor (List ℕ)) → NextRecord left a → answer_at n a ≡ Ok o → o ≡ Some p → Begins left p.0.now p.1.now
-next_some n left a o p next h some = subst (NextRecord left) (answer_ok n a o h ∙ ap Ok some) next
+      (subst (λ (x : Result (List ℕ) StepRefusal). StepAnswer present events bs x) e answer)
+      (subst (λ (x : Result (List ℕ) StepRefusal). IfOk x (λ y. Whole events present → Whole events y)) e whole)
+      (subst (λ (x : Result (List ℕ) StepRefusal). IfOk x (λ y. (cs : List ℕ) → Derived cs present → Derived cs y)) e derived)
 
 pub shorter : (file bs rest : List ℕ) → Begins file bs rest → length rest < length file
 shorter file bs rest b = omega (arith, ap length b.bytes, length-append bs rest)

@@ -7,33 +7,10 @@ use Rattle.algebra.specs.Terms.{Term, leaf, never, node, inst}
 use Rattle.algebra.specs.Texts.{operator_byte, text_of}
 use Rattle.algebra.specs.Rules.{variable_byte, has}
 use Rattle.algebra.specs.declared.Variable.{Variable}
-use Rattle.texts.specs.Held.{Added}
 use Rattle.steps.specs.Sides.{side_text, slot, Holds, Agrees}
-use Rattle.steps.specs.Rewrites.{Piece}
+use Rattle.steps.specs.Rewrites.{BoundSymbol, Piece}
 use Rattle.steps.specs.declared.binding.Binding.{Binding}
-use Rattle.steps.proofs.Taken.{same_letter, prints, said, has_any, apart, not_never, or_end, or_assoc}
-
-pub piece_letter : (b : Binding) (s : ℕ) (w : List ℕ) (v : Variable) (x : Bor (List ℕ)) → Piece b s w → s ≡ variable_byte v → slot b v ≡ Some x → w ≡ x.now
-piece_letter b s w v x (inl k) e there =
-    let one : k.letter ≡ v = same_letter k.letter v (sym k.is ∙ e) in
-    let same : Some k.bytes ≡ Some x = sym k.there ∙ ap (slot b) one ∙ there in
-    let bytes : k.bytes ≡ x = cc in
-    k.same ∙ ap (λ x. x.now) bytes
-piece_letter b s w v x (inr k) e there = absurd (k.0 v e)
-
-pub piece_none : (b : Binding) (s : ℕ) (w : List ℕ) (v : Variable) → Piece b s w → s ≡ variable_byte v → slot b v ≡ None → ⊥
-piece_none b s w v (inl k) e there =
-    let one : k.letter ≡ v = same_letter k.letter v (sym k.is ∙ e) in
-    let same : Some k.bytes ≡ None = sym k.there ∙ ap (slot b) one ∙ there in
-    let z : ◌≡◌ {A = ℕ} 0 1 = cc in omega arith
-piece_none b s w v (inr k) e there = k.0 v e
-
-pub piece_plain : (b : Binding) (s : ℕ) (w : List ℕ) → Piece b s w → ((v : Variable) → s ≡ variable_byte v → ⊥) → w ≡ s ∷ []
-piece_plain b s w (inl k) none = absurd (none k.letter k.is)
-piece_plain b s w (inr k) none = k.1
-
-pub added_as : (r : Bool) (old new v w : List ℕ) → w ≡ v → Added r old new v → Added r old new w
-added_as r old new v w e a = subst (Added r old new) (sym e) a
+use Rattle.steps.proofs.Taken.{prints, said, has_any, apart, not_never, same_letter, or_end, or_assoc}
 
 some_of : {A : Type 0} (o : Option A) → is_some o ≡ true → (x : A) × (o ≡ Some x)
 some_of None e = let z : ◌≡◌ {A = ℕ} 0 1 = cc in absurd (omega arith)
@@ -45,6 +22,13 @@ or_left a c e = ap (λ (t : Bool). t || c) e
 pub or_right : (a c : Bool) → c ≡ true → (a || c) ≡ true
 or_right true c e = refl
 or_right false c e = e
+
+-- a symbol that stands for bytes is no letter, or one that is bound
+piece_bound : (b : Binding) (s : ℕ) (w : List ℕ) → Piece b s w → BoundSymbol b s
+piece_bound b s w (inl p) v is =
+    let same : p.letter ≡ v = same_letter p.letter v (sym p.is ∙ is) in
+    ap is_some (ap (slot b) (sym same) ∙ p.there)
+piece_bound b s w (inr p) v is = absurd (p.0 v is)
 
 -- the next symbol of what is left of a side
 record Next (b : Binding) (s : ℕ) (todo : List ℕ) (left : List (Term Variable)) : Type 0 where
@@ -111,7 +95,10 @@ module _ (b : Binding) (S : Term Variable) (old new side : List ℕ) (i : ℕ) (
   at : Next b (get_or side i 0) (drop (i + 1) side) inv.left
   at = next b (get_or side i 0) (drop (i + 1) side) inv.left (sym (drop_more side i 0 h) ∙ inv.todo_is) inv.letters
 
-  pub spelt_more : (after : List ℕ) → ((w : List ℕ) → Piece b (get_or side i 0) w → Added true new after w) → Spelt b S old after (drop (i + 1) side)
+  pub spelt_bound : BoundSymbol b (get_or side i 0)
+  spelt_bound = piece_bound b (get_or side i 0) at.bytes at.piece
+
+  pub spelt_more : (after : List ℕ) → ((w : List ℕ) → Piece b (get_or side i 0) w → after ≡ new ++ w) → Spelt b S old after (drop (i + 1) side)
   spelt_more after added = record {
     left = at.more;
     todo_is = at.todo_is;
@@ -119,8 +106,8 @@ module _ (b : Binding) (S : Term Variable) (old new side : List ℕ) (i : ℕ) (
     says = λ σ agrees. ap (λ (l : List ℕ). l ++ said σ at.more) (added at.bytes at.piece) ∙ append_assoc new at.bytes (said σ at.more) ∙ ap (λ (l : List ℕ). new ++ l) (sym (at.says σ agrees)) ∙ inv.says σ agrees;
   }
 
-  pub spelt_full : (after : List ℕ) → ((w : List ℕ) → Piece b (get_or side i 0) w → Added false new after w) → (σ : Variable → Term ℕ) → Agrees b σ → 511 < length (old ++ text_of (inst σ S))
-  spelt_full after added σ agrees =
+  pub spelt_full : ((w : List ℕ) → Piece b (get_or side i 0) w → 511 < length (new ++ w)) → (σ : Variable → Term ℕ) → Agrees b σ → 511 < length (old ++ text_of (inst σ S))
+  spelt_full added σ agrees =
       let long : 511 < length (new ++ at.bytes) = added at.bytes at.piece in
       let all : (new ++ at.bytes) ++ said σ at.more ≡ old ++ text_of (inst σ S) = append_assoc new at.bytes (said σ at.more) ∙ ap (λ (l : List ℕ). new ++ l) (sym (at.says σ agrees)) ∙ inv.says σ agrees in
       omega (arith, ap length all, length-append (new ++ at.bytes) (said σ at.more))

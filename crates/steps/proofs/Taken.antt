@@ -1,8 +1,8 @@
 -- A side's symbols beside a text, one after the other.
 -- Assumes nothing.
-use Rattle.std.proofs.Common.{◌≡◌, ℕ, ◌+◌, ◌-◌, ◌<◌, Bool, true, false, ◌||◌, eqb, ◌⊎◌, List, [], ◌∷◌, ◌++◌, length, get_or, take, drop, is_some, Some, None, Option, sym, refl, ap, ◌∙◌, subst, inl, inr, ⊎_elim, append_assoc, append-nil, arith, length-append, length-drop, Bor}
+use Rattle.std.proofs.Common.{◌≡◌, ℕ, ◌+◌, ◌<◌, Bool, true, false, ◌||◌, eqb, ◌⊎◌, List, [], ◌∷◌, ◌++◌, length, get_or, drop, is_some, Some, None, Option, sym, refl, ap, ◌∙◌, subst, inl, inr, ⊎_elim, append_assoc, append-nil, arith, Bor}
 use Rattle.std.proofs.lemmas.Bool.{eq-eqb, ne_eqb, cases_eq}
-use Rattle.std.proofs.lemmas.List.{append_cancel_left, take_at, take_rest, drop_more}
+use Rattle.std.proofs.lemmas.List.{append_cancel_left, drop_more}
 use Rattle.algebra.specs.Terms.{Term, leaf, never, node, inst}
 use Rattle.algebra.specs.Texts.{operator_byte, text_of}
 use Rattle.algebra.specs.Rules.{variable_byte, variable_letter, has}
@@ -12,7 +12,6 @@ use Rattle.algebra.specs.declared.Token.TheVariants as tokens
 use Rattle.algebra.specs.declared.Variable.{Variable}
 use Rattle.algebra.specs.declared.Variable.TheVariants.{X, Y, Z}
 use Rattle.algebra.proofs.Bytes.{one_text}
-use Rattle.texts.specs.Spans.{Spans}
 use Rattle.steps.specs.Sides.{side_text, slot, Holds, Takes, Agrees, Matches, Fitted}
 use Rattle.steps.specs.Walks.{Plain, Took, Stuck}
 use Rattle.steps.specs.declared.binding.Binding.{Binding}
@@ -214,16 +213,6 @@ done S text rest b sofar =
     go σ (leaf v ∷ ss) e agrees f seen = let z : ◌≡◌ {A = ℕ} 0 1 = cc in absurd (omega arith)
     go σ (never ∷ ss) e agrees f seen = let z : ◌≡◌ {A = ℕ} 0 1 = cc in absurd (omega arith)
     go σ (node o x y ∷ ss) e agrees f seen = let z : ◌≡◌ {A = ℕ} 0 1 = cc in absurd (omega arith)
-
--- what `bind` does for a letter that is not bound yet
-pub new_term_lem : (o : Option (Bor (List ℕ))) (text : List ℕ) (e : ℕ) (t : Term ℕ) → o ≡ None → Spans text 0 t e → Takes o (take (e - 0) text) × (text ≡ take (e - 0) text ++ take (length text - e) (drop e text))
-new_term_lem o text e t none s =
-    let is = s.here in
-    let within = s.within in
-    let same : e - 0 ≡ e = omega arith in
-    let size : length (text_of t) ≡ e = omega (arith, ap length is, length-append (text_of t) (drop e text), length-drop e text) in
-    let front : take (e - 0) text ≡ text_of t = ap (λ (k : ℕ). take k text) same ∙ ap (λ (l : List ℕ). take e l) is ∙ take_at (text_of t) (drop e text) e size in
-    (subst (λ (x : Option (Bor (List ℕ))). Takes x (take (e - 0) text)) (sym none) (t, front), is ∙ (λ k. sym front k ++ sym (take_rest text e) k))
 
 pub again : (S : Term Variable) (text side : List ℕ) (i : ℕ) (a b : Walk) → i < length side → Sofar S text (drop i side) a.bound a.rest.now → Took a (get_or side i 0) b → Sofar S text (drop (i + 1) side) b.bound b.rest.now
 again S text side i a b h sofar took =

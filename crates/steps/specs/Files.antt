@@ -4,6 +4,7 @@ use Rattle.std.specs.Prelude.{◌≡◌, ℕ, ◌+◌, ◌*◌, List, [], ◌∷
 use Rattle.std.specs.Borrow.{Bor}
 use Rattle.steps.specs.Stepping.{StepAnswer}
 use Rattle.steps.specs.declared.file.StepFault.{StepFault}
+use Rattle.steps.specs.declared.records.Records.{Records}
 use Rattle.steps.specs.declared.refusal.StepRefusal.{StepRefusal}
 use Rattle.steps.specs.declared.refusal.StepRefusal.TheVariants.{Form}
 
@@ -37,6 +38,13 @@ fault_at n e = record { step = n; refusal = e }
 abbrev pub answer_at : {A : Type 0} → ℕ → Result A StepRefusal → Result A StepFault
 answer_at n (Ok x) = Ok x
 answer_at n (Err e) = Err (fault_at n e)
+
+-- The next of the records that are left comes with its number, and those after it are left; at their end comes
+-- nothing. A record that is cut off comes as a fault, and nothing is left after it.
+abbrev pub NextOf : Records → Option (Result (ℕ × Bor (List ℕ)) StepFault) → Records → Type 0
+NextOf old None new = (old.left.now ≡ []) × (new.left.now ≡ [])
+NextOf old (Some (Ok p)) new = (p.0 ≡ old.step) × Begins old.left.now p.1.now new.left.now × (new.step ≡ old.step + 1)
+NextOf old (Some (Err f)) new = (f ≡ fault_at old.step Form) × CutOff old.left.now × (new.left.now ≡ [])
 
 -- the steps of a file are applied in order, from the text old on; the first has the number n, and a refused one ends them
 pub data Runs (events : ℕ) : ℕ → List ℕ → List ℕ → Result (List ℕ) StepFault → Type 0 where

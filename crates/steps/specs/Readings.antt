@@ -1,8 +1,10 @@
 -- What the values that are read of a step record stand for.
 -- Assumes nothing.
-use Rattle.std.specs.Prelude.{◌≡◌, ℕ, Bool, List, Some, None, Ok, Err, Option, Result}
+use Rattle.std.specs.Prelude.{◌≡◌, ℕ, Bool, List, [], Some, None, Ok, Err, Option, Result}
 use Rattle.std.specs.Borrow.{Bor}
-use Rattle.steps.specs.Records.{Request, Field, the_rule, the_way, the_place, the_term, FieldAt, Next, Fields, Says, bits, blank}
+use Rattle.steps.specs.Records.{Request, Field, the_rule, the_way, the_place, the_term, bit_of, FieldAt, Next, Fields, Says, bits, blank}
+use Rattle.steps.specs.declared.record.FieldKind.{FieldKind}
+use Rattle.steps.specs.declared.record.FieldKind.TheVariants.{Rule as KindRule, Way as KindWay, Place as KindPlace, Supply as KindSupply}
 use Rattle.steps.specs.declared.record.StepField.{StepField}
 use Rattle.steps.specs.declared.record.StepField.TheVariants.{Rule, Way, Place, Supply}
 use Rattle.steps.specs.declared.record.StepRecord.{StepRecord}
@@ -30,6 +32,13 @@ field_of (Rule n) = the_rule n
 field_of (Way w) = the_way w
 field_of (Place p) = the_place p
 field_of (Supply v t) = the_term v t.now
+
+-- the bit of the map byte that a kind of field has
+abbrev pub kind_bit : FieldKind → ℕ
+kind_bit KindRule = 0
+kind_bit KindWay = 1
+kind_bit KindPlace = 2
+kind_bit (KindSupply v) = bit_of (the_term v [])
 
 -- the field of a bit was read, or none stands there
 abbrev pub FieldRead : ℕ → List ℕ → Result (StepField × Bor (List ℕ)) StepRefusal → Type 0

@@ -1,11 +1,12 @@
 -- What a step record is, and what it says: a map byte, and then the fields whose bit stands.
 -- Assumes nothing.
 use Rattle.std.specs.Prelude.{◌≡◌, ℕ, ◌+◌, ◌*◌, ◌/◌, ◌%◌, ◌^◌, ◌<◌, ◌≤◌, Bool, true, false, List, [], ◌∷◌, ◌++◌, length, Some, None, Option, ◌==◌}
+use Rattle.algebra.specs.Conversions.{way_byte}
 use Rattle.algebra.specs.Texts.{Whole}
 use Rattle.algebra.specs.declared.Variable.{Variable}
 use Rattle.algebra.specs.declared.Variable.TheVariants.{X, Y, Z}
 use Rattle.algebra.specs.declared.Way.{Way}
-use Rattle.algebra.specs.declared.Way.TheVariants.{Forward, Backward}
+use Rattle.algebra.specs.declared.Way.TheVariants.{Forward}
 
 -- what a step record asks for: a rule, a way, a place, and terms for X, Y and Z
 pub record Request : Type 0 where
@@ -46,10 +47,6 @@ bits = 0 ∷ 1 ∷ 2 ∷ 3 ∷ 4 ∷ 5 ∷ []
 
 abbrev pub bit_stands : ℕ → ℕ → Bool
 bit_stands map bit = map / 2 ^ bit % 2 == 1
-
-abbrev pub way_byte : Way → ℕ
-way_byte Forward = 0
-way_byte Backward = 1
 
 -- the field is written at the front of the bytes, and rest stands after it: a place has its high byte first,
 -- and a term its length before it, in one byte

@@ -8,6 +8,7 @@ use Rattle.algebra.specs.Rules.{variable_byte, has}
 use Rattle.algebra.specs.declared.Variable.{Variable}
 use Rattle.algebra.specs.declared.Variable.TheVariants.{X, Y, Z}
 use Rattle.steps.specs.declared.binding.Binding.{Binding}
+use Rattle.steps.specs.declared.rules.Sides.{Sides}
 
 -- a side as the sheet writes it
 abbrev pub side_text : Term Variable → List ℕ
@@ -48,3 +49,8 @@ pub record Fitted (s : Term Variable) (text : List ℕ) (b : Binding) (rest : Li
   pub agrees : Agrees b choice
   pub matches : Matches s choice text rest
   pub letters : (v : Variable) → is_some (slot b v) ≡ has v s
+
+-- the two sides in code are those of the terms s and t
+pub record WritesSides (sides : Sides) (s t : Term Variable) : Type 0 where
+  pub old : sides.old.now ≡ side_text s
+  pub new : sides.new.now ≡ side_text t

@@ -1,14 +1,12 @@
 -- What a step does to a text: when it is granted, what it makes, and when it is refused.
 -- Assumes nothing.
-use Rattle.std.specs.Prelude.{◌≡◌, ℕ, ◌<◌, ◌≤◌, List, ◌++◌, length, take, drop, is_some, Some, None, Ok, Err, Option, Result}
+use Rattle.std.specs.Prelude.{◌≡◌, ℕ, ◌<◌, ◌≤◌, List, ◌++◌, length, take, drop, is_some, Some, None, Option, Result}
 use Rattle.algebra.specs.Refusals.{Answers}
 use Rattle.algebra.specs.Steps.{Step}
 use Rattle.algebra.specs.Terms.{Term, inst}
 use Rattle.algebra.specs.Texts.{text_of}
 use Rattle.algebra.specs.Rules.{Rule, numbered, old_side, new_side, lacks}
 use Rattle.algebra.specs.declared.Variable.{Variable}
-use Rattle.texts.specs.Held.{used}
-use Rattle.texts.specs.declared.text.Text.{Text}
 use Rattle.steps.specs.Records.{Request, Says, supplied_for}
 use Rattle.steps.specs.Refusals.{step_code}
 use Rattle.steps.specs.declared.refusal.StepRefusal.{StepRefusal}
@@ -62,11 +60,6 @@ StepAnswer old events bs r = Answers step_code (StepAsks (Unit {0}) old events b
 -- only one answer is possible
 abbrev pub OneAnswer : List ℕ → ℕ → List ℕ → Type 0
 OneAnswer old events bs = (r s : Result (List ℕ) StepRefusal) → StepAnswer old events bs r → StepAnswer old events bs s → r ≡ s
-
--- the bytes of the text in an answer
-abbrev pub text_in : {E : Type 0} → Result Text E → Result (List ℕ) E
-text_in (Ok x) = Ok (used x)
-text_in (Err e) = Err e
 
 -- one step of the sheet leads from the term of the old text to that of the new
 abbrev pub StepsOn : List ℕ → List ℕ → Type 0

@@ -1,13 +1,13 @@
 // The letters of a rule with the bytes of the terms that they stand for.
-ghost use Rattle.std.specs.Prelude.{◌≡◌, ◌&&◌, Some, None, MatchOption, ◌≢◌};
-ghost use Rattle.algebra.specs.Rules.{variable_byte};
+ghost use Rattle.std.specs.Prelude.{◌≡◌, true, false, Some, None, ◌≢◌};
+ghost use Rattle.std.specs.Bool.{MatchBool};
 ghost use Rattle.algebra.specs.declared.Variable.{Variable as Letter};
 ghost use Rattle.steps.specs.Sides.{slot, either};
 
 use algebra::Variable;
 
 // The bytes of the terms that X, Y and Z stand for, where that is known.
-#[derive(Clone, Copy)]
+#[derive(Clone, Copy, Debug, PartialEq, Eq)]
 pub struct Binding<'a> {
     pub x: Option<&'a [u8]>,
     pub y: Option<&'a [u8]>,
@@ -52,41 +52,20 @@ impl<'a> Binding<'a> {
         ensures here { slot result letter ≡ Some bytes.entry }
         ensures other { (u : Letter) → (u ≢ letter) → slot result u ≡ slot self.entry u }
     {
+        let bytes = Some(bytes);
         match letter {
-            Variable::X => Binding {
-                x: Some(bytes),
-                y: self.y,
-                z: self.z,
-            },
-            Variable::Y => Binding {
-                x: self.x,
-                y: Some(bytes),
-                z: self.z,
-            },
-            Variable::Z => Binding {
-                x: self.x,
-                y: self.y,
-                z: Some(bytes),
-            },
+            Variable::X => Binding { x: bytes, ..self },
+            Variable::Y => Binding { y: bytes, ..self },
+            Variable::Z => Binding { z: bytes, ..self },
         }
     }
-}
 
-// The letter of a rule that a byte is.
-pub(crate) fn variable_of(byte: u8) -> Option<Variable>
-    ensures { MatchOption result ((v : Letter) → byte ≢ variable_byte v) (λ v. byte ≡ variable_byte v) }
-{
-    match byte {
-        b'X' => Some(Variable::X),
-        b'Y' => Some(Variable::Y),
-        b'Z' => Some(Variable::Z),
-        _ => None,
+    // Whether a test holds of each letter with what it is bound to. Three calls are shorter than an array of the pairs
+    // and a chain over it.
+    pub(crate) fn all<F: Fn(Variable, Option<&'a [u8]>) -> bool>(self, test: F) -> bool
+        requires { F.IsAlwaysCallable test }
+        ensures { MatchBool result ((v : Letter) → F.post test v (slot self.entry v) true) ((v : Letter) × F.post test v (slot self.entry v) false) }
+    {
+        test(Variable::X, self.x) && test(Variable::Y, self.y) && test(Variable::Z, self.z)
     }
-}
-
-// Whether a test holds of each of the three letters.
-pub(crate) fn all_three(x: bool, y: bool, z: bool) -> bool
-    ensures { result ≡ (x && (y && z)) }
-{
-    x && y && z
 }

@@ -5,6 +5,7 @@ pub mod binding;
 pub mod file;
 mod matching;
 pub mod record;
+pub mod records;
 pub mod refusal;
 mod rewriting;
 mod rules;

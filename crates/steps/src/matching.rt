@@ -1,11 +1,12 @@
 // A rule's side beside a text: X, Y and Z stand for terms of the text.
 ghost use Rattle.std.specs.Prelude.{◌≡◌, ℕ, List, ◌++◌, None, MatchOption, ◌≢◌};
 ghost use Rattle.algebra.specs.Terms.{Term};
-ghost use Rattle.algebra.specs.declared.Variable.{Variable};
+ghost use Rattle.algebra.specs.declared.Variable.{Variable as Letter};
 ghost use Rattle.steps.specs.Sides.{Fitted, Matches, Takes, side_text, slot};
 ghost use Rattle.steps.specs.Walks.{Stuck, Took};
 
-use crate::binding::{Binding, variable_of};
+use crate::binding::Binding;
+use algebra::Variable;
 use texts::scan::term_end;
 
 // The text's first bytes that the letter stands for, and the bytes after them.
@@ -13,17 +14,8 @@ fn bind<'a>(bound: Option<&'a [u8]>, text: &'a [u8]) -> Option<(&'a [u8], &'a [u
     ensures { MatchOption result ((w rest : List ℕ) → Takes bound.entry w → text.now ≢ w ++ rest) (λ p. Takes bound.entry p.0.now × (text.now ≡ p.0.now ++ p.1.now)) }
 {
     match bound {
-        None => {
-            let end = term_end(text, 0)?;
-            Some((&text[0..end], &text[end..]))
-        }
-        Some(term) => {
-            if text.starts_with(term) {
-                Some((term, &text[term.len()..]))
-            } else {
-                None
-            }
-        }
+        None => Some(text.split_at(term_end(text, 0)?)),
+        Some(term) => Some((term, text.strip_prefix(term)?)),
     }
 }
 
@@ -36,7 +28,7 @@ pub struct Walk<'a> {
 
 impl<'a> Walk<'a> {
     fn start(text: &'a [u8]) -> Walk<'a>
-        ensures none { (v : Variable) → slot result.bound v ≡ None }
+        ensures none { (v : Letter) → slot result.bound v ≡ None }
         ensures rest { result.rest.now ≡ text.now }
     {
         Walk {
@@ -45,36 +37,23 @@ impl<'a> Walk<'a> {
         }
     }
 
-    // The bytes of the text after the match.
-    pub fn after(self) -> &'a [u8]
-        ensures { result.now ≡ self.entry.rest.now }
-    {
-        let Walk { rest, .. } = self;
-        rest
-    }
-
     // One symbol of a side: a letter takes a term of the text, and any other symbol takes itself.
     fn step(self, symbol: u8) -> Option<Walk<'a>>
         ensures { MatchOption result (Stuck self.entry symbol) (λ w. Took self.entry symbol w) }
     {
-        match variable_of(symbol) {
-            Some(letter) => {
+        match Variable::try_from(symbol) {
+            Ok(letter) => {
                 let (term, after) = bind(self.bound.get(letter), self.rest)?;
                 Some(Walk {
                     bound: self.bound.with(letter, term),
                     rest: after,
                 })
             }
-            None => {
-                let [byte, after @ ..] = self.rest else {
-                    return None;
-                };
-                if *byte != symbol {
-                    return None;
-                }
-                Some(Walk {
-                    bound: self.bound,
+            Err(_) => {
+                let (byte, after) = self.rest.split_first()?;
+                (*byte == symbol).then_some(Walk {
                     rest: after,
+                    ..self
                 })
             }
         }
@@ -83,7 +62,7 @@ impl<'a> Walk<'a> {
 
 // What the side's letters stand for where it fits the front of the text, and the bytes after that.
 pub fn fit<'a>(side: &[u8], text: &'a [u8]) -> Option<Walk<'a>>
-    ensures { (s : Term Variable) → side.now ≡ side_text s → MatchOption result ((σ : Variable → Term ℕ) (rest : List ℕ) → Matches s σ text.now rest → ⊥) (λ w. Fitted s text.now w.bound w.rest.now) }
+    ensures { (s : Term Letter) → side.now ≡ side_text s → MatchOption result ((σ : Letter → Term ℕ) (rest : List ℕ) → Matches s σ text.now rest → ⊥) (λ w. Fitted s text.now w.bound w.rest.now) }
 {
     let mut walk = Walk::start(text);
     for symbol in side {

@@ -1,22 +1,19 @@
 // Step records: what one says, read field by field.
-ghost use Rattle.std.specs.Prelude.{◌≡◌, ℕ, ◌+◌, ◌*◌, ◌<◌, ◌≤◌, true, List, Decides};
+ghost use Rattle.std.specs.Prelude.{◌≡◌, ℕ, ◌<◌, ◌≤◌, true, List, Decides};
 ghost use Rattle.algebra.specs.declared.Variable.{Variable as Letter};
-ghost use Rattle.steps.specs.Readings.{FieldRead, FieldsRead, NextRead, StepRead, bytes_of, field_of, request_of};
+ghost use Rattle.steps.specs.Readings.{FieldRead, FieldsRead, NextRead, StepRead, bytes_of, field_of, kind_bit, request_of};
 ghost use Rattle.steps.specs.Records.{Request, Says, WholeTerm, bit_of, bit_stands, blank, put, supplied_for, the_term};
 
-use crate::binding::{Binding, all_three};
+use crate::binding::Binding;
 use crate::refusal::StepRefusal;
 use algebra::{Variable, Way};
 use texts::scan::is_whole;
-
-// The number of bits of the map byte that have a field.
-const FIELDS: u8 = 6;
 
 // The number of rules.
 const RULES: u8 = 42;
 
 // What a step record says.
-#[derive(Clone, Copy)]
+#[derive(Clone, Copy, Debug, PartialEq, Eq)]
 pub struct StepRecord<'a> {
     pub rule: u8,
     pub way: Way,
@@ -25,7 +22,7 @@ pub struct StepRecord<'a> {
 }
 
 // A field of a step record. A supplied term is a part of the record.
-#[derive(Clone, Copy)]
+#[derive(Clone, Copy, Debug, PartialEq, Eq)]
 pub enum StepField<'a> {
     Rule(u8),
     Way(Way),
@@ -33,8 +30,27 @@ pub enum StepField<'a> {
     Supply(Variable, &'a [u8]),
 }
 
+// What a field of a step record is about.
+#[derive(Clone, Copy, Debug, PartialEq, Eq)]
+pub(crate) enum FieldKind {
+    Rule,
+    Way,
+    Place,
+    Supply(Variable),
+}
+
+// The fields, in the order of their bits in the map byte, which is the order in which a record has them.
+const FIELDS: [FieldKind; 6] = [
+    FieldKind::Rule,
+    FieldKind::Way,
+    FieldKind::Place,
+    FieldKind::Supply(Variable::X),
+    FieldKind::Supply(Variable::Y),
+    FieldKind::Supply(Variable::Z),
+];
+
 impl<'a> StepRecord<'a> {
-    // What is said before any field is read.
+    // What is said before any field is read: the rule 0 stands for none yet.
     fn blank() -> StepRecord<'a>
         ensures { request_of result ≡ blank }
     {
@@ -42,11 +58,7 @@ impl<'a> StepRecord<'a> {
             rule: 0,
             way: Way::Forward,
             place: 0,
-            supplied: Binding {
-                x: None,
-                y: None,
-                z: None,
-            },
+            supplied: Binding::none(),
         }
     }
 
@@ -58,25 +70,8 @@ impl<'a> StepRecord<'a> {
             StepField::Rule(rule) => StepRecord { rule, ..self },
             StepField::Way(way) => StepRecord { way, ..self },
             StepField::Place(place) => StepRecord { place, ..self },
-            StepField::Supply(Variable::X, term) => StepRecord {
-                supplied: Binding {
-                    x: Some(term),
-                    ..self.supplied
-                },
-                ..self
-            },
-            StepField::Supply(Variable::Y, term) => StepRecord {
-                supplied: Binding {
-                    y: Some(term),
-                    ..self.supplied
-                },
-                ..self
-            },
-            StepField::Supply(Variable::Z, term) => StepRecord {
-                supplied: Binding {
-                    z: Some(term),
-                    ..self.supplied
-                },
+            StepField::Supply(letter, term) => StepRecord {
+                supplied: self.supplied.with(letter, term),
                 ..self
             },
         }
@@ -87,9 +82,7 @@ impl<'a> StepRecord<'a> {
 fn read_rule(bytes: &[u8]) -> Result<(StepField<'_>, &[u8]), StepRefusal>
     ensures { FieldRead 0 bytes.now result }
 {
-    let [number, rest @ ..] = bytes else {
-        return Err(StepRefusal::Form);
-    };
+    let (number, rest) = bytes.split_first().ok_or(StepRefusal::Form)?;
     Ok((StepField::Rule(*number), rest))
 }
 
@@ -97,18 +90,9 @@ fn read_rule(bytes: &[u8]) -> Result<(StepField<'_>, &[u8]), StepRefusal>
 fn read_way(bytes: &[u8]) -> Result<(StepField<'_>, &[u8]), StepRefusal>
     ensures { FieldRead 1 bytes.now result }
 {
-    match bytes {
-        [0, rest @ ..] => Ok((StepField::Way(Way::Forward), rest)),
-        [1, rest @ ..] => Ok((StepField::Way(Way::Backward), rest)),
-        _ => Err(StepRefusal::Form),
-    }
-}
-
-// The number of two bytes, high byte first.
-pub(crate) fn number_of(high: u8, low: u8) -> usize
-    ensures { result ≡ 256 * high + low }
-{
-    256 * high as usize + low as usize
+    let (byte, rest) = bytes.split_first().ok_or(StepRefusal::Form)?;
+    let way = Way::try_from(*byte).map_err(|_| StepRefusal::Form)?;
+    Ok((StepField::Way(way), rest))
 }
 
 // The place, and the bytes after it.
@@ -118,14 +102,8 @@ fn read_place(bytes: &[u8]) -> Result<(StepField<'_>, &[u8]), StepRefusal>
     let [high, low, rest @ ..] = bytes else {
         return Err(StepRefusal::Form);
     };
-    Ok((StepField::Place(number_of(*high, *low)), rest))
-}
-
-// Whether a term of so many bytes can stand where so many are left.
-fn has_length(end: usize, left: usize) -> bool
-    ensures { Decides result ((1 ≤ end) × (end ≤ left)) }
-{
-    1 <= end && end <= left
+    let place = u16::from_be_bytes([*high, *low]);
+    Ok((StepField::Place(usize::from(place)), rest))
 }
 
 // The term for a letter, and the bytes after it.
@@ -135,33 +113,33 @@ fn read_supply<'a>(
 ) -> Result<(StepField<'a>, &'a [u8]), StepRefusal>
     ensures { (t : List ℕ) → FieldRead (bit_of (the_term letter t)) bytes.now result }
 {
-    let [length, rest @ ..] = bytes else {
-        return Err(StepRefusal::Form);
-    };
-    let end = *length as usize;
-    if !has_length(end, rest.len()) {
+    let (length, rest) = bytes.split_first().ok_or(StepRefusal::Form)?;
+    if *length == 0 {
         return Err(StepRefusal::Form);
     }
-    Ok((StepField::Supply(letter, &rest[0..end]), &rest[end..]))
+    let (term, rest) = rest
+        .split_at_checked(usize::from(*length))
+        .ok_or(StepRefusal::Form)?;
+    Ok((StepField::Supply(letter, term), rest))
 }
 
-// The field of a bit of the map byte, and the bytes after it.
-fn read_field<'a>(bit: u8, bytes: &'a [u8]) -> Result<(StepField<'a>, &'a [u8]), StepRefusal>
-    ensures { FieldRead bit bytes.now result }
+// A field of a kind, and the bytes after it.
+fn read_field<'a>(
+    kind: FieldKind,
+    bytes: &'a [u8],
+) -> Result<(StepField<'a>, &'a [u8]), StepRefusal>
+    ensures { FieldRead (kind_bit kind) bytes.now result }
 {
-    match bit {
-        0 => read_rule(bytes),
-        1 => read_way(bytes),
-        2 => read_place(bytes),
-        3 => read_supply(Variable::X, bytes),
-        4 => read_supply(Variable::Y, bytes),
-        5 => read_supply(Variable::Z, bytes),
-        _ => Err(StepRefusal::Form),
+    match kind {
+        FieldKind::Rule => read_rule(bytes),
+        FieldKind::Way => read_way(bytes),
+        FieldKind::Place => read_place(bytes),
+        FieldKind::Supply(letter) => read_supply(letter, bytes),
     }
 }
 
 // Whether a bit of the map byte stands.
-fn bit_stands(map: u8, bit: u8) -> bool
+fn bit_stands(map: u8, bit: usize) -> bool
     requires { bit < 8 }
     ensures { result ≡ bit_stands map bit }
 {
@@ -176,15 +154,11 @@ pub(crate) struct Reading<'a> {
 }
 
 impl<'a> Reading<'a> {
-    // Reads the field of a bit, where the bit stands.
-    fn next(self, map: u8, bit: u8) -> Result<Reading<'a>, StepRefusal>
-        requires { bit < 8 }
-        ensures { NextRead (bit_stands map bit) bit self.entry result }
+    // Reads a field of the kind.
+    fn next(self, kind: FieldKind) -> Result<Reading<'a>, StepRefusal>
+        ensures { NextRead true (kind_bit kind) self.entry result }
     {
-        if !bit_stands(map, bit) {
-            return Ok(self);
-        }
-        let (field, rest) = read_field(bit, self.rest)?;
+        let (field, rest) = read_field(kind, self.rest)?;
         Ok(Reading {
             said: self.said.with(field),
             rest,
@@ -192,7 +166,8 @@ impl<'a> Reading<'a> {
     }
 }
 
-// What the fields that stand in the map say, where they are all the bytes.
+// What the fields that stand in the map say, where they are all the bytes. The bits of the map are walked in their
+// order, as the form of a record is defined.
 fn read_fields<'a>(map: u8, bytes: &'a [u8]) -> Result<StepRecord<'a>, StepRefusal>
     ensures { FieldsRead map bytes.now result }
 {
@@ -200,8 +175,10 @@ fn read_fields<'a>(map: u8, bytes: &'a [u8]) -> Result<StepRecord<'a>, StepRefus
         said: StepRecord::blank(),
         rest: bytes,
     };
-    for bit in 0..FIELDS {
-        reading = reading.next(map, bit)?;
+    for (bit, kind) in FIELDS.iter().enumerate() {
+        if bit_stands(map, bit) {
+            reading = reading.next(*kind)?;
+        }
     }
     if !reading.rest.is_empty() {
         return Err(StepRefusal::Form);
@@ -217,31 +194,24 @@ fn is_map(map: u8) -> bool
 }
 
 // Whether the sheet has a rule of this number.
-fn is_rule(number: u8) -> bool
+pub fn is_rule(number: u8) -> bool
     ensures { Decides result ((1 ≤ number) × (number ≤ 42)) }
 {
-    1 <= number && number <= RULES
+    (1..=RULES).contains(&number)
 }
 
 // Whether a supplied term is one whole term with letters among the events.
 fn is_term(term: Option<&[u8]>, events: u8) -> bool
     ensures { Decides result (WholeTerm events (bytes_of term.entry)) }
 {
-    match term {
-        Some(bytes) => is_whole(bytes, events),
-        None => true,
-    }
+    term.is_none_or(|bytes| is_whole(bytes, events))
 }
 
 // Whether each supplied term is whole.
 fn has_whole_terms(said: &StepRecord<'_>, events: u8) -> bool
     ensures { Decides result ((v : Letter) → WholeTerm events (supplied_for (request_of said.now) v)) }
 {
-    all_three(
-        is_term(said.supplied.x, events),
-        is_term(said.supplied.y, events),
-        is_term(said.supplied.z, events),
-    )
+    said.supplied.all(|_, term| is_term(term, events))
 }
 
 // Whether the rule is one of the sheet, and each supplied term whole.

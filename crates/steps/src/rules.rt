@@ -1,16 +1,20 @@
 // The rule sheet in code: the two sides of each rule, as bytes.
-ghost use Rattle.std.specs.Prelude.{◌≡◌, ◌≤◌};
-ghost use Rattle.algebra.specs.Rules.{new_side, numbered, old_side};
+ghost use Rattle.std.specs.Prelude.{◌≡◌, ◌≤◌, not, ◌&&◌};
+ghost use Rattle.algebra.specs.Rules.{has, new_side, numbered, old_side};
+ghost use Rattle.algebra.specs.Terms.{Term};
+ghost use Rattle.algebra.specs.declared.Variable.{Variable as Letter};
 ghost use Rattle.steps.specs.Sides.{side_text};
 
-use algebra::Way;
+use algebra::{Variable, Way};
 
-#[derive(Clone, Copy)]
+// The two sides of a rule, left and right as the sheet has them.
+#[derive(Clone, Copy, Debug, PartialEq, Eq)]
 pub struct Rule {
     pub left: &'static [u8],
     pub right: &'static [u8],
 }
 
+// A table in fixed memory, read by the number of a rule.
 const SHEET: [Rule; 42] = [
     Rule {
         left: b"+XY",
@@ -182,40 +186,46 @@ const SHEET: [Rule; 42] = [
     },
 ];
 
-// The left side of a rule, counted from 1.
-fn left(rule: u8) -> &'static [u8]
-    requires { (1 ≤ rule) × (rule ≤ 42) }
-    ensures { result.now ≡ side_text (numbered rule).left }
+// Whether the letter stands in the side.
+fn has_letter(side: &[u8], letter: Variable) -> bool
+    ensures { (s : Term Letter) → side.now ≡ side_text s → result ≡ has letter s }
 {
-    SHEET[rule as usize - 1].left
+    side.contains(&u8::from(letter))
 }
 
-// The right side of a rule, counted from 1.
-fn right(rule: u8) -> &'static [u8]
-    requires { (1 ≤ rule) × (rule ≤ 42) }
-    ensures { result.now ≡ side_text (numbered rule).right }
-{
-    SHEET[rule as usize - 1].right
+// The two sides of a rule as a step uses them: the old one is found, and the new one put there. Old is left, or right
+// where the step goes backward.
+#[derive(Clone, Copy, Debug, PartialEq, Eq)]
+pub struct Sides {
+    pub old: &'static [u8],
+    pub new: &'static [u8],
 }
 
-// The side that a step finds.
-pub fn old_side(rule: u8, way: Way) -> &'static [u8]
-    requires { (1 ≤ rule) × (rule ≤ 42) }
-    ensures { result.now ≡ side_text (old_side way (numbered rule)) }
-{
-    match way {
-        Way::Forward => left(rule),
-        Way::Backward => right(rule),
+impl Sides {
+    ghost use Rattle.steps.specs.Sides.{WritesSides};
+
+    // The sides of the rule of a number, counted from 1, for a step in a way.
+    pub fn of(number: u8, way: Way) -> Sides
+        requires { (1 ≤ number) × (number ≤ 42) }
+        ensures { WritesSides result (old_side way (numbered number)) (new_side way (numbered number)) }
+    {
+        let rule = &SHEET[usize::from(number) - 1];
+        match way {
+            Way::Forward => Sides {
+                old: rule.left,
+                new: rule.right,
+            },
+            Way::Backward => Sides {
+                old: rule.right,
+                new: rule.left,
+            },
+        }
     }
-}
 
-// The side that a step puts there.
-pub fn new_side(rule: u8, way: Way) -> &'static [u8]
-    requires { (1 ≤ rule) × (rule ≤ 42) }
-    ensures { result.now ≡ side_text (new_side way (numbered rule)) }
-{
-    match way {
-        Way::Forward => right(rule),
-        Way::Backward => left(rule),
+    // Whether the letter stands in the new side and not in the old one.
+    pub fn lacks(self, letter: Variable) -> bool
+        ensures { (s t : Term Letter) → WritesSides self s t → result ≡ (has letter t && not (has letter s)) }
+    {
+        has_letter(self.new, letter) && !has_letter(self.old, letter)
     }
 }

@@ -1,34 +1,36 @@
--- A text that grows by a byte at a time.
+-- Bytes that are added to a text stand behind those that were there.
 -- Assumes nothing.
-use Rattle.std.proofs.Common.{◌≡◌, ℕ, ◌+◌, ◌-◌, ◌<◌, ◌≤◌, List, [], ◌∷◌, ◌++◌, length, get_or, take, drop, set, replicate, sym, ap, ◌∙◌, append_assoc, arith}
-use Rattle.std.proofs.lemmas.List.{take_more, take_more_set, drop-set-lt, drop-replicate, drop-drop, length-take}
+use Rattle.std.proofs.Common.{◌≡◌, ℕ, ◌+◌, ◌-◌, ◌≤◌, List, ◌++◌, length, drop, replicate, sym, ap, ◌∙◌, arith}
+use Rattle.std.proofs.lemmas.List.{length-take, length-drop, length-append, drop-replicate, drop-drop, length-replicate}
+use Rattle.std.proofs.lemmas.Slice.{take-put_mid, drop-put_mid}
+use borrow.Rule.Slice.PartMut.{put_mid}
 use Rattle.algebra.specs.Texts.{never_byte}
-use Rattle.texts.specs.declared.text.Text.{Text}
-use Rattle.texts.specs.Held.{used}
+use Rattle.texts.specs.Text.{used, Filled, length-used}
+use Rattle.texts.specs.declared.text.Text.TheInside.{Inside}
 
--- i bytes of more stand behind what was there
-pub record Grown (old now : Text) (more : List ℕ) (i : ℕ) : Type 0 where
-  pub size : length now.bytes ≡ 511
-  pub count : now.len ≡ old.len + i
-  pub front : used now ≡ used old ++ take i more
+-- bytes are written into the first unused places
+module _ (x : Inside) (f : Filled x) (more ys : List ℕ) (e : ys ≡ more) (fits : x.len + length more ≤ 511) where
+  abbrev pub grown : Inside
+  grown = record { bytes = put_mid x.len (x.len + length more - x.len) x.bytes ys; len = x.len + length more }
 
--- the places behind a byte that was added hold N as before
-pub still_filled : (now : Text) (v : ℕ) → now.len < 511 → drop (now.len + 1) (set now.bytes now.len v) ≡ replicate (511 - (now.len + 1)) never_byte
-still_filled now v room =
-    drop-set-lt (now.len + 1) now.bytes now.len v (omega arith)
-    ∙ sym (drop-drop 1 now.len now.bytes)
-    ∙ ap (λ (l : List ℕ). drop 1 l) now.filled
-    ∙ drop-replicate 1 (511 - now.len) never_byte
-    ∙ ap (λ (n : ℕ). replicate n never_byte) (omega arith)
+  grown_used : used grown ≡ used x ++ more
+  grown_used =
+      take-put_mid x.len (x.len + length more - x.len) x.bytes ys (x.len + length more) (omega (arith, ap length e)) (omega (arith, f.sized, f.short))
+      ∙ ap (λ (z : List ℕ). used x ++ z) e
 
-pub one_more : (old now : Text) (more : List ℕ) (i : ℕ) → Grown old now more i → i < length more → now.len < 511 → take (now.len + 1) (set now.bytes now.len (get_or more i 0)) ≡ used old ++ take (i + 1) more
-one_more old now more i g h room =
-    let v = get_or more i 0 in
-    take_more_set now.bytes now.len v (omega (arith, g.size))
-    ∙ ap (λ (l : List ℕ). l ++ v ∷ []) g.front
-    ∙ append_assoc (used old) (take i more) (v ∷ [])
-    ∙ ap (λ (l : List ℕ). used old ++ l) (sym (take_more more i 0 h))
+  front : length (used grown) ≡ x.len + length more
+  front = ap length grown_used ∙ length-append (used x) more ∙ ap (λ (n : ℕ). n + length more) (length-used x f)
 
--- no text is longer than its array
-pub used_short : (x : Text) → length (used x) ≤ 511
-used_short x = omega (arith, length-take x.len x.bytes, x.short)
+  pub grown_filled : Filled grown
+  grown_filled =
+      let behind : drop grown.len grown.bytes ≡ replicate (511 - grown.len) never_byte =
+      drop-put_mid x.len (x.len + length more - x.len) x.bytes ys (x.len + length more) (omega arith) (omega (arith, f.sized, f.short)) (omega (arith, ap length e))
+      ∙ sym (drop-drop (length more) x.len x.bytes)
+      ∙ ap (λ (l : List ℕ). drop (length more) l) f.filled
+      ∙ drop-replicate (length more) (511 - x.len) never_byte
+      ∙ ap (λ (n : ℕ). replicate n never_byte) (omega arith) in
+      record {
+        sized = omega (arith, front, length-take grown.len grown.bytes, ap length behind, length-drop grown.len grown.bytes, length-replicate (511 - grown.len) never_byte);
+        short = fits;
+        filled = behind;
+      }

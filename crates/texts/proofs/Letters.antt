@@ -1,6 +1,7 @@
 -- The letters of a term by the bytes of its text, and whole terms.
 -- Assumes nothing.
-use Rattle.std.proofs.Common.{◌≡◌, ℕ, ◌+◌, ◌<◌, ◌≤◌, List, [], ◌∷◌, ◌++◌, length, take, drop, All, sym, refl, ap, ◌∙◌, subst, append-nil, arith, length-drop}
+use Rattle.std.proofs.Common.{◌≡◌, ◌≢◌, true, eqb, eq-eqb, Some, None, Option, MatchOption, ℕ, ◌+◌, ◌<◌, ◌≤◌, List, [], ◌∷◌, ◌++◌, length, take, drop, All, sym, refl, ap, ◌∙◌, subst, append-nil, arith, length-drop}
+use Rattle.std.specs.Option.{option_eq}
 use Rattle.std.proofs.lemmas.List.{take_at, drop_at}
 use Rattle.std.proofs.lemmas.List.Elements.{All-nil, All-cons, All-head, All-tail, All-same, All-take, All-drop, All-append}
 use Rattle.algebra.specs.declared.Operator.{Operator}
@@ -71,3 +72,16 @@ whole_end n bs t end s w =
     let both : text_of t ++ drop end bs ≡ text_of w.term ++ [] = sym s.here ∙ w.written ∙ sym (append-nil (text_of w.term)) in
     let rest = (one_text t w.term (drop end bs) [] both).1 in
     omega (arith, ap length rest, length-drop end bs, s.within)
+
+-- what was found at the front of the bytes, and what they then are
+module _ (n : ℕ) (bs : List ℕ) where
+  abbrev pub Found : Option ℕ → Type 0
+  Found r = MatchOption r ((t : Term ℕ) (rest : List ℕ) → bs ≢ text_of t ++ rest) (λ end. (t : Term ℕ) × Spans bs 0 t end)
+
+  pub whole_found : (r : Option ℕ) → Found r → r ≡ Some (length bs) → Below n bs → Whole n bs
+  whole_found (Some end) f e b = let z : end ≡ length bs = cc in spans_whole n bs f.0 end f.1 z b
+  whole_found None f e b = absurd (cc)
+
+  pub whole_met : (r : Option ℕ) → Found r → Whole n bs → option_eq eqb r (Some (length bs)) ≡ true
+  whole_met (Some end) f w = eq-eqb end (length bs) (whole_end n bs f.0 end f.1 w)
+  whole_met None f w = absurd (f w.term [] (w.written ∙ sym (append-nil (text_of w.term))))

@@ -1,6 +1,6 @@
 pub mod Rows
 pub mod Letters
-pub mod Stacks
 pub mod Readings
+pub mod Reversed
 pub mod Evaluations
 pub mod Grow

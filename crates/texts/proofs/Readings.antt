@@ -1,7 +1,6 @@
 -- The dates on the stack are those of the terms read.
 -- Assumes nothing.
-use Rattle.std.proofs.Common.{◌≡◌, ℕ, zero, suc, ◌+◌, ◌-◌, ◌<◌, ◌≤◌, List, [], ◌∷◌, length, get_or, drop, All, sym, refl, ap, ◌∙◌, subst, arith, length-drop, drop-cons}
-use Rattle.std.proofs.lemmas.List.Elements.{All-get_or}
+use Rattle.std.proofs.Common.{◌≡◌, ℕ, zero, suc, ◌+◌, ◌-◌, ◌≤◌, List, [], ◌∷◌, length, drop, sym, refl, ap, ◌∙◌, subst, arith, length-drop}
 use Rattle.algebra.specs.declared.Token.{Token}
 use Rattle.algebra.specs.declared.Token.TheVariants.{Letter, Never, Joins, Unknown}
 use Rattle.algebra.specs.Kinds.{Kind}
@@ -10,6 +9,7 @@ use Rattle.algebra.specs.Texts.{Read, end, bad, on, front, terms, event_byte, ev
 use Rattle.algebra.proofs.Bytes.{event_spelling}
 use Rattle.algebra.proofs.Texts.{read_text}
 use Rattle.texts.specs.Stack.{Room, stacked}
+use Rattle.texts.proofs.Reversed.{last, last_all, StandsBefore}
 
 -- the dates of the terms read
 abbrev pub dates : {D : Type 0} → Kind D → (ℕ → D) → Read ℕ → List D
@@ -29,7 +29,7 @@ Good end = Unit {0}
 Good bad = ⊥
 Good (on t s) = Good s
 
-length_dates : {D : Type 0} (K : Kind D) (d : ℕ → D) (s : Read ℕ) → length (dates K d s) ≡ depth s
+pub length_dates : {D : Type 0} (K : Kind D) (d : ℕ → D) (s : Read ℕ) → length (dates K d s) ≡ depth s
 length_dates K d end = refl
 length_dates K d bad = refl
 length_dates K d (on t s) = ap suc (length_dates K d s)
@@ -89,19 +89,16 @@ stacked_dates K d (Joins o) (on l bad) h = absurd h
 stacked_dates K d (Joins o) (on l (on r s)) h = refl
 stacked_dates K d Unknown s h = absurd h
 
--- what a token needs, from how deep the stack is before and after it
-room_by_depth : (k : Token ℕ) (s : Read ℕ) (top places n : ℕ) → Good (front k s) → ((v : ℕ) → k ≡ Letter v → v < n) → places - top ≡ depth s → depth (front k s) ≤ places → top ≤ places → Room k top places n
-room_by_depth (Letter v) s top places n h low e up w = (omega arith, low v refl)
-room_by_depth Never s top places n h low e up w = omega arith
-room_by_depth (Joins o) end top places n h low e up w = absurd h
-room_by_depth (Joins o) bad top places n h low e up w = absurd h
-room_by_depth (Joins o) (on l end) top places n h low e up w = absurd h
-room_by_depth (Joins o) (on l bad) top places n h low e up w = absurd h
-room_by_depth (Joins o) (on l (on r s)) top places n h low e up w = omega arith
-room_by_depth Unknown s top places n h low e up w = tt
-
-letter_low : (n b v : ℕ) → b < 97 + n → event_token b ≡ Letter v → v < n
-letter_low n b v h e = let m : b ≡ 97 + v = event_spelling.letter_back b v e in omega arith
+-- what a token needs, from how many terms are read before and after it
+room_by_depth : (k : Token ℕ) (s : Read ℕ) (free : ℕ) → Good (front k s) → depth (front k s) ≤ free + depth s → Room k free (depth s)
+room_by_depth (Letter v) s free h w = omega arith
+room_by_depth Never s free h w = omega arith
+room_by_depth (Joins o) end free h w = absurd h
+room_by_depth (Joins o) bad free h w = absurd h
+room_by_depth (Joins o) (on l end) free h w = absurd h
+room_by_depth (Joins o) (on l bad) free h w = absurd h
+room_by_depth (Joins o) (on l (on r s)) free h w = omega arith
+room_by_depth Unknown s free h w = tt
 
 -- the text of a term, read from the place i on
 module _ {D : Type 0} (K : Kind D) (d : ℕ → D) (bs : List ℕ) (t : Term ℕ) (e : bs ≡ text_of t) where
@@ -123,45 +120,28 @@ module _ {D : Type 0} (K : Kind D) (d : ℕ → D) (bs : List ℕ) (t : Term ℕ
       let l : depth (left i) ≤ length bs - i = subst (λ (k : ℕ). depth (left i) ≤ k) (length-drop i bs) (depth_length (drop i bs)) in
       omega (arith, deep i)
 
-  module _ (i : ℕ) (some : 0 < i) (within : i ≤ length bs) where
-    -- the byte in front of the place i
-    abbrev b : ℕ
-    b = get_or bs (i - 1) 0
+  -- The byte b stands in front of the last n bytes, and st are the dates of the terms in these.
+  module _ (n b : ℕ) (h : StandsBefore bs n b) (st : List D) (held : st ≡ dates K d (terms event_token (last n bs))) where
+    abbrev behind : Read ℕ
+    behind = terms event_token (last n bs)
 
-    one_more : left (i - 1) ≡ front (event_token b) (left i)
-    one_more =
-        let n : suc (i - 1) ≡ i = omega arith in
-        ap (terms event_token) (drop-cons bs (i - 1) 0 (omega arith) ∙ ap (λ (k : ℕ). b ∷ drop k bs) n)
+    one_more : left (length bs - (n + 1)) ≡ front (event_token b) behind
+    one_more = ap (terms event_token) h.here
 
-    more_good : Good (front (event_token b) (left i))
-    more_good = subst Good one_more (good (i - 1))
+    more_good : Good (front (event_token b) behind)
+    more_good = subst Good one_more (good (length bs - (n + 1)))
 
-    module _ (ws : List D) (top : ℕ) (inside : top ≤ length ws) (h : drop top ws ≡ dates K d (left i)) where
-      -- the work table has room for that byte
-      pub room : (n : ℕ) → All (λ x. x < 97 + n) bs → length bs ≤ 511 → 256 ≤ length ws → (k : Token ℕ) → k ≡ event_token b → Room k top (length ws) n
-      room n low short wide k is =
-          let count : length ws - top ≡ depth (left i) = sym (length-drop top ws) ∙ ap length h ∙ length_dates K d (left i) in
-          subst (λ (x : Token ℕ). Room x top (length ws) n) (sym is)
-          (room_by_depth (event_token b) (left i) top (length ws) n more_good
-          (λ v e. letter_low n b v (All-get_or (λ x. x < 97 + n) bs (i - 1) 0 (omega arith) low) e) count
-          (omega (arith, shallow (i - 1) (omega arith) short, ap depth one_more)) inside)
+    -- the stack has room for that byte
+    pub room : (free : ℕ) → length bs ≤ 511 → 256 ≤ free + length st → Room (event_token b) free (length st)
+    room free short wide =
+        let count : length st ≡ depth behind = ap length held ∙ length_dates K d behind in
+        subst (Room (event_token b) free) (sym count)
+        (room_by_depth (event_token b) behind free more_good (omega (arith, shallow (length bs - (n + 1)) (omega arith) short, ap depth one_more)))
 
-      -- the stack after it
-      pub turned : (k : Token ℕ) → k ≡ event_token b → stacked K d k (drop top ws) ≡ dates K d (left (i - 1))
-      turned k is =
-          ap (λ (x : Token ℕ). stacked K d x (drop top ws)) is ∙ ap (stacked K d (event_token b)) h
-          ∙ stacked_dates K d (event_token b) (left i) more_good ∙ ap (dates K d) (sym one_more)
+    -- the stack after it
+    pub turned : stacked K d (event_token b) st ≡ dates K d (terms event_token (last (n + 1) bs))
+    turned = ap (stacked K d (event_token b)) held ∙ stacked_dates K d (event_token b) behind more_good ∙ ap (dates K d) (sym one_more)
 
-  pub finished : (i : ℕ) → i ≤ 0 → (ws : List D) (top : ℕ) → drop top ws ≡ dates K d (left i) → drop top ws ≡ date K d t ∷ []
-  finished zero z ws top h = h ∙ ap (dates K d) all_read_lem
-  finished (suc i) z ws top h = absurd (omega arith)
-
-pub top_within : {D : Type 0} (ws : List D) (top : ℕ) (x : D) → drop top ws ≡ x ∷ [] → top < length ws
-top_within ws top x h =
-    let n : length ws - top ≡ 1 = sym (length-drop top ws) ∙ ap length h in
-    omega arith
-
-pub top_is : {D : Type 0} (ws : List D) (top : ℕ) (x r : D) → drop top ws ≡ x ∷ [] → get_or ws top r ≡ x
-top_is ws top x r h =
-    let e = drop-cons ws top r (top_within ws top x h) in
-    cc
+  -- the stack after the whole text
+  pub finished : (n : ℕ) → n ≡ length bs → (st : List D) → st ≡ dates K d (terms event_token (last n bs)) → st ≡ date K d t ∷ []
+  finished n h st held = held ∙ ap (λ (x : List ℕ). dates K d (terms event_token x)) (last_all bs n h) ∙ ap (dates K d) all_read_lem

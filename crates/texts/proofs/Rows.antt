@@ -45,9 +45,9 @@ read_never b e = ap event_token e
 joint_in : (b k : ℕ) (bs rest : List ℕ) → 0 < k → Joint b → Row k (b ∷ bs) rest → Row (k + 1) bs rest
 joint_in b k bs rest h (o, is) ([], len, e) = absurd (omega arith)
 joint_in b k bs rest h (o, is) (leaf n ∷ ts, len, e) =
-    let x : b ≡ event_byte n = cc in let r = read_letter b n x in let z : ◌≡◌ {A = ℕ} 0 1 = cc in absurd (omega arith)
+    let x : b ≡ event_byte n = cc in let r = read_letter b n x in absurd (cc)
 joint_in b k bs rest h (o, is) (never ∷ ts, len, e) =
-    let x : b ≡ never_byte = cc in let r = read_never b x in let z : ◌≡◌ {A = ℕ} 0 1 = cc in absurd (omega arith)
+    let x : b ≡ never_byte = cc in let r = read_never b x in absurd (cc)
 joint_in b k bs rest h (o, is) (node o' l r ∷ ts, len, e) =
     let tail : bs ≡ ((text_of l ++ text_of r) ++ writes ts) ++ rest = cc in
     (l ∷ r ∷ ts, omega arith, tail ∙ ap (λ (z : List ℕ). z ++ rest) (append_assoc (text_of l) (text_of r) (writes ts)))
@@ -62,8 +62,8 @@ joint_out b k bs rest h (o, is) (l ∷ r ∷ ts, len, e) =
     (node o l r ∷ ts, omega arith, cc)
 
 leaf_node : (b : ℕ) (o : Operator) → Leaf b → b ≡ operator_byte o → ⊥
-leaf_node b o (a_letter v is) e = let r = read_joint b o e in let z : ◌≡◌ {A = ℕ} 0 1 = cc in omega arith
-leaf_node b o (a_never is) e = let r = read_joint b o e in let z : ◌≡◌ {A = ℕ} 0 1 = cc in omega arith
+leaf_node b o (a_letter v is) e = let r = read_joint b o e in cc
+leaf_node b o (a_never is) e = let r = read_joint b o e in cc
 
 leaf_in : (b k : ℕ) (bs rest : List ℕ) → 0 < k → Leaf b → Row k (b ∷ bs) rest → Row (k - 1) bs rest
 leaf_in b k bs rest h is ([], len, e) = absurd (omega arith)
@@ -78,17 +78,17 @@ leaf_out b k bs rest h (a_never is) (ts, len, e) = let m : b ≡ never_byte = me
 unknown_none : (b k : ℕ) (bs rest : List ℕ) → 0 < k → Unknown ≡ event_token b → Row k (b ∷ bs) rest → ⊥
 unknown_none b k bs rest h is ([], len, e) = omega arith
 unknown_none b k bs rest h is (leaf n ∷ ts, len, e) =
-    let x : b ≡ event_byte n = cc in let r = read_letter b n x in let z : ◌≡◌ {A = ℕ} 0 1 = cc in omega arith
+    let x : b ≡ event_byte n = cc in let r = read_letter b n x in cc
 unknown_none b k bs rest h is (never ∷ ts, len, e) =
-    let x : b ≡ never_byte = cc in let r = read_never b x in let z : ◌≡◌ {A = ℕ} 0 1 = cc in omega arith
+    let x : b ≡ never_byte = cc in let r = read_never b x in cc
 unknown_none b k bs rest h is (node o l r ∷ ts, len, e) =
-    let x : b ≡ operator_byte o = cc in let r = read_joint b o x in let z : ◌≡◌ {A = ℕ} 0 1 = cc in omega arith
+    let x : b ≡ operator_byte o = cc in let r = read_joint b o x in cc
 
 end_none : (k : ℕ) (rest : List ℕ) → 0 < k → Row k [] rest → ⊥
 end_none k rest h ([], len, e) = omega arith
-end_none k rest h (leaf n ∷ ts, len, e) = let x : ◌≡◌ {A = ℕ} 0 1 = cc in omega arith
-end_none k rest h (never ∷ ts, len, e) = let x : ◌≡◌ {A = ℕ} 0 1 = cc in omega arith
-end_none k rest h (node o l r ∷ ts, len, e) = let x : ◌≡◌ {A = ℕ} 0 1 = cc in omega arith
+end_none k rest h (leaf n ∷ ts, len, e) = cc
+end_none k rest h (never ∷ ts, len, e) = cc
+end_none k rest h (node o l r ∷ ts, len, e) = cc
 
 -- one byte more
 module _ (k₀ : ℕ) (bs₀ : List ℕ) (text : List ℕ) (k i : ℕ) (some : 0 < k) (within : i < length text) (inv : Alike k₀ bs₀ k (drop i text)) where
@@ -107,26 +107,23 @@ module _ (k₀ : ℕ) (bs₀ : List ℕ) (text : List ℕ) (k i : ℕ) (some : 0
   alike_after (Letter v) is n e = let m : n ≡ k - 1 = cc in subst (λ (x : ℕ). Alike k₀ bs₀ x (drop (i + 1) text)) (sym m) (alike_leaf (a_letter v is))
   alike_after Never is n e = let m : n ≡ k - 1 = cc in subst (λ (x : ℕ). Alike k₀ bs₀ x (drop (i + 1) text)) (sym m) (alike_leaf (a_never is))
   alike_after (Joins o) is n e = let m : n ≡ k + 1 = cc in subst (λ (x : ℕ). Alike k₀ bs₀ x (drop (i + 1) text)) (sym m) (alike_joint (o, is))
-  alike_after Unknown is n e = let z : ◌≡◌ {A = ℕ} 0 1 = cc in absurd (omega arith)
+  alike_after Unknown is n e = absurd (cc)
 
   -- no term stands where the byte is none
   pub stop_unknown : (t : Token ℕ) → t ≡ event_token (get_or text i 0) → None ≡ still_to_come t k → (rest : List ℕ) → Row k₀ bs₀ rest → ⊥
-  stop_unknown (Letter v) is e rest x = let z : ◌≡◌ {A = ℕ} 0 1 = cc in omega arith
-  stop_unknown Never is e rest x = let z : ◌≡◌ {A = ℕ} 0 1 = cc in omega arith
-  stop_unknown (Joins o) is e rest x = let z : ◌≡◌ {A = ℕ} 0 1 = cc in omega arith
+  stop_unknown (Letter v) is e rest x = cc
+  stop_unknown Never is e rest x = cc
+  stop_unknown (Joins o) is e rest x = cc
   stop_unknown Unknown is e rest x = unknown_none _ k _ rest some is ((at_byte rest).0 x)
 
 pub after_small : (t : Token ℕ) (k n i : ℕ) → k ≤ i + 1 → Some n ≡ still_to_come t k → n ≤ i + 1 + 1
 after_small (Letter v) k n i h e = let m : n ≡ k - 1 = cc in omega arith
 after_small Never k n i h e = let m : n ≡ k - 1 = cc in omega arith
 after_small (Joins o) k n i h e = let m : n ≡ k + 1 = cc in omega arith
-after_small Unknown k n i h e = let z : ◌≡◌ {A = ℕ} 0 1 = cc in absurd (omega arith)
+after_small Unknown k n i h e = absurd (cc)
 
 pub stop_end : (k₀ : ℕ) (bs₀ text : List ℕ) (k i : ℕ) → 0 < k → length text ≤ i → Alike k₀ bs₀ k (drop i text) → (rest : List ℕ) → Row k₀ bs₀ rest → ⊥
 stop_end k₀ bs₀ text k i some past inv rest x = end_none k rest some (subst (λ (z : List ℕ). Row k z rest) (drop_all i text past) ((inv rest).0 x))
-
-pub alike_start : (k : ℕ) (bs : List ℕ) → Alike k bs k bs
-alike_start k bs rest = (λ x. x, λ x. x)
 
 -- one term is a row of one
 pub one : (t : Term ℕ) (bs rest : List ℕ) → bs ≡ text_of t ++ rest → Row 1 bs rest

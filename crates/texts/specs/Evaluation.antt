@@ -1,6 +1,7 @@
 -- What an evaluation answers.
 -- Assumes nothing.
 use Rattle.std.specs.Prelude.{◌≡◌, ℕ, ◌≤◌, List, length, Result}
+use Rattle.std.proofs.Common.{refl, arith}
 use Rattle.algebra.specs.Kinds.{Kind}
 use Rattle.algebra.specs.Refusals.{Answers}
 use Rattle.algebra.specs.Terms.{Term, date, dating_of}
@@ -13,6 +14,18 @@ abbrev pub evaluation_code : EvaluationRefusal → ℕ
 evaluation_code NoText = 51
 evaluation_code NoDating = 52
 evaluation_code SmallWork = 53
+
+-- no two refusals have one number
+pub evaluation_codes_differ : (e f : EvaluationRefusal) → evaluation_code e ≡ evaluation_code f → e ≡ f
+evaluation_codes_differ NoText NoText h = refl
+evaluation_codes_differ NoText NoDating h = absurd (omega arith)
+evaluation_codes_differ NoText SmallWork h = absurd (omega arith)
+evaluation_codes_differ NoDating NoText h = absurd (omega arith)
+evaluation_codes_differ NoDating NoDating h = refl
+evaluation_codes_differ NoDating SmallWork h = absurd (omega arith)
+evaluation_codes_differ SmallWork NoText h = absurd (omega arith)
+evaluation_codes_differ SmallWork NoDating h = absurd (omega arith)
+evaluation_codes_differ SmallWork SmallWork h = refl
 
 -- what an evaluation asks for, by the refusal that it else gives: a text, a dating of exactly 24 dates, and a work table of at least 256 dates
 abbrev pub EvaluationAsks : {D : Type 0} → List ℕ → List D → ℕ → EvaluationRefusal → Type 0

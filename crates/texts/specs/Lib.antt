@@ -1,4 +1,4 @@
 pub mod Spans
 pub mod Stack
 pub mod Evaluation
-pub mod Held
+pub mod Text

@@ -1,12 +1,10 @@
 -- The letters of every term are those of the tree's events.
 -- Assumes nothing.
-use Rattle.std.proofs.Common.{◌≡◌, ℕ, ◌+◌, ◌≤◌, true, eqb, List, [], ◌∷◌, length, ⊎_elim, arith}
+use Rattle.std.proofs.Common.{◌≡◌, ℕ, ◌+◌, ◌≤◌, true, eqb, List, [], ◌∷◌, length, ap, ⊎_elim, arith}
 use Rattle.std.proofs.lemmas.Bool.{cond_both, both_ways, or_cases, ltb-true}
 use Rattle.algebra.specs.Terms.{Term, leaf, never, node, Among}
 use Rattle.algebra.specs.Texts.{text_of}
-use Rattle.texts.specs.Held.{used}
 use Rattle.texts.specs.declared.text.Text.{Text}
-use Rattle.texts.proofs.Grow.{used_short}
 use Rattle.trees.specs.declared.record.Gate.{Gate}
 use Rattle.trees.specs.declared.record.Gate.TheVariants.{Or, And, Pand, Before}
 use Rattle.trees.specs.declared.record.Record.{Record}
@@ -42,13 +40,13 @@ more_letters E n never h a = tt
 more_letters E n (node o l r) h a = (more_letters E n l h a.0, more_letters E n r h a.1)
 
 -- the source of a tree is a text
-pub is_source : (E n : ℕ) (rs : List Record) (x : Text) → E ≤ 24 → InputsKnown E rs → length rs ≡ n → LastIsGate rs → used x ≡ text_of (term_at rs (63 + n)) → Source E (used x)
-is_source E n rs x e f m l w =
+pub is_source : (E n : ℕ) (rs : List Record) (x : Text) → E ≤ 24 → InputsKnown E rs → length rs ≡ n → LastIsGate rs → length (text_of (term_at rs (63 + n))) ≤ 511 → x ≡ text_of (term_at rs (63 + n)) → Source E x
+is_source E n rs x e f m l s w =
     let a = letters E rs f (63 + n) (last_there E rs n m l) in
     record {
       whole = record { term = term_at rs (63 + n); written = w; letters = a };
       text = record {
         whole = record { term = term_at rs (63 + n); written = w; letters = more_letters E 24 (term_at rs (63 + n)) e a };
-        short = used_short x;
+        short = omega (arith, ap length w);
       };
     }

@@ -1,8 +1,7 @@
+pub mod Parts
 pub mod Fronts
-pub mod Lengths
 pub mod Slots
 pub mod Progress
-pub mod Heads
 pub mod One
 pub mod Settled
 pub mod Letters

@@ -2,7 +2,6 @@
 -- Assumes nothing.
 use Rattle.std.proofs.Common.{◌≡◌, ℕ, ◌+◌, ◌≤◌, List, [], ◌∷◌, ◌++◌, IfOk, Ok, Err, Result, sym, refl, ap, ◌∙◌, subst, inl, inr, append-nil, arith}
 use Rattle.algebra.specs.Texts.{text_of}
-use Rattle.texts.specs.Held.{used}
 use Rattle.trees.specs.declared.record.Record.{Record}
 use Rattle.trees.specs.declared.refusal.TreeRefusal.{TreeRefusal}
 use Rattle.trees.specs.declared.reader.Tree.{Tree}
@@ -12,7 +11,7 @@ use Rattle.trees.specs.Reading.{Answer, gives, refuses, answer, Along, Stop, unr
 use Rattle.trees.proofs.Letters.{is_source}
 use Rattle.trees.proofs.One.{spelt}
 use Rattle.trees.proofs.Sole.{one_tree}
-use Rattle.trees.proofs.Settled.{Fine, sound, gates_join, events_sum}
+use Rattle.trees.proofs.Settled.{Fine, sound, last_short, gates_join, events_sum}
 
 fine : (E : ℕ) (bs : List ℕ) (rs : List Record) (rest : List ℕ) → Along E bs rs rest → Fine E rs
 fine E bs [] rest a = tt
@@ -23,7 +22,7 @@ inputs_known E [] f = tt
 inputs_known E (r ∷ rs) f = (f.0.one, f.0.two, inputs_known E rs f.1)
 
 abbrev Meant : List ℕ → Answer → Type 0
-Meant bs (gives E w) = (s : Tree) → s.events ≡ E → used s.source ≡ w → Means bs s × Source s.events (used s.source)
+Meant bs (gives E w) = (s : Tree) → s.events ≡ E → s.source ≡ w → Means bs s × Source s.events s.source
 Meant bs (refuses c) = Unit {0}
 
 meant_here : (E n : ℕ) (body : List ℕ) (rs : List Record) (rest : List ℕ) → E ≤ 24 → Along E body rs rest → {a : Answer} → Stop E n rs rest a → Meant (E ∷ n ∷ body) a
@@ -46,7 +45,7 @@ meant_here E n body rs rest e a (granted m z g) = λ s i t.
         events = λ x h. events_sum E rs x e (omega arith) f;
         source = t ∙ ap (λ (k : ℕ). text_of (term_at rs (63 + k))) (sym m);
       },
-      subst (λ (x : ℕ). Source x (used s.source)) (sym i) (is_source E n rs s.source e (inputs_known E rs f) m g t),
+      subst (λ (x : ℕ). Source x s.source) (sym i) (is_source E n rs s.source e (inputs_known E rs f) m g (last_short E n rs m g f) t),
     )
 
 outcome_meant : (bs : List ℕ) (a : Answer) → Outcome bs a → Meant bs a
@@ -63,6 +62,6 @@ pub sole : (bs : List ℕ) (r : Result Tree TreeRefusal) → Outcome bs (answer 
 sole bs (Ok t) o = λ s m. one_tree bs s t m (meant bs (Ok t) o)
 sole bs (Err e) o = tt
 
-pub sourced : (bs : List ℕ) (r : Result Tree TreeRefusal) → Outcome bs (answer r) → IfOk r (λ s. Source s.events (used s.source))
+pub sourced : (bs : List ℕ) (r : Result Tree TreeRefusal) → Outcome bs (answer r) → IfOk r (λ s. Source s.events s.source)
 sourced bs (Ok s) o = (outcome_meant bs (answer (Ok s)) o s refl refl).1
 sourced bs (Err e) o = tt

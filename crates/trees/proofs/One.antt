@@ -1,7 +1,8 @@
 -- Bytes have one outcome.
 -- Assumes nothing.
-use Rattle.std.proofs.Common.{◌≡◌, ℕ, ◌<◌, ◌≤◌, cond, eqb, List, [], ◌∷◌, ◌++◌, length, get_or, drop, Some, None, sym, refl, ap, ◌∙◌, subst, inl, inr, ⊎_elim, append_assoc, arith}
+use Rattle.std.proofs.Common.{◌≡◌, ℕ, ◌<◌, ◌≤◌, cond, eqb, List, [], ◌∷◌, ◌++◌, length, get_or, drop, None, sym, refl, ap, ◌∙◌, subst, inl, inr, ⊎_elim, append_assoc, arith}
 use Rattle.std.proofs.lemmas.Bool.{cases_order}
+use Rattle.std.proofs.lemmas.Option.{none-some, same_Some}
 use Rattle.trees.specs.declared.record.Gate.{Gate}
 use Rattle.trees.specs.declared.record.Gate.TheVariants.{Or, And, Pand, Before}
 use Rattle.trees.specs.declared.record.Record.{Record}
@@ -88,12 +89,6 @@ goes_on E bs rs (q ∷ qs) x y l a b =
     (λ o. ⊎_elim (λ h. goes_on E bs rs qs x b.1.0 h a b.1.1.0) (λ h. absurd (omega arith)) o)
     (cases_order (length rs) (length qs))
 
-none_some : (f : TreeRefusal) → None ≡ Some f → ⊥
-none_some f e = let z : ◌≡◌ {A = ℕ} 0 1 = cc in omega arith
-
-same_some : (e f : TreeRefusal) → Some e ≡ Some f → e ≡ f
-same_some e f h = cc
-
 module _ (E n : ℕ) (rs : List Record) (rest : List ℕ) where
   within : {r : Answer} → Stop E n rs rest r → length rs ≤ n
   within (unread m u) = omega arith
@@ -106,7 +101,7 @@ module _ (E n : ℕ) (rs : List Record) (rest : List ℕ) where
   halts (unread m u) l g = u g.next g.after g.front
   halts (faulty m r after f e h) l g =
       let same = (front_one rest r g.next after g.after f g.front).0 in
-      none_some e (sym (ap (λ (z : Record). fault E rs z) same ∙ g.fine) ∙ h)
+      none-some e (sym (ap (λ (z : Record). fault E rs z) same ∙ g.fine) ∙ h)
   halts (left_over m z) l g = omega arith
   halts (no_source m z h) l g = omega arith
   halts (granted m z h) l g = omega arith
@@ -118,7 +113,7 @@ module _ (E n : ℕ) (rs : List Record) (rest : List ℕ) where
   stop_one (unread m u) (no_source m' z' g') = absurd (omega arith)
   stop_one (unread m u) (granted m' z' g') = absurd (omega arith)
   stop_one (faulty m r x f e h) (unread m' u') = absurd (u' r x f)
-  stop_one (faulty m r x f e h) (faulty m' r' x' f' e' h') = ap (λ (z : TreeRefusal). refuses (tree_code z)) (same_some e e' (sym h ∙ ap (λ (z : Record). fault E rs z) (front_one rest r r' x x' f f').0 ∙ h'))
+  stop_one (faulty m r x f e h) (faulty m' r' x' f' e' h') = ap (λ (z : TreeRefusal). refuses (tree_code z)) (same_Some e e' (sym h ∙ ap (λ (z : Record). fault E rs z) (front_one rest r r' x x' f f').0 ∙ h'))
   stop_one (faulty m r x f e h) (left_over m' z') = absurd (omega arith)
   stop_one (faulty m r x f e h) (no_source m' z' g') = absurd (omega arith)
   stop_one (faulty m r x f e h) (granted m' z' g') = absurd (omega arith)

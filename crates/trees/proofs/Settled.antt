@@ -1,7 +1,8 @@
 -- Once an input is a gate or is read, no later record changes its term.
 -- Assumes nothing.
 use Rattle.std.proofs.Common.{◌≡◌, ℕ, ◌+◌, ◌<◌, ◌≤◌, Bool, true, false, cond, ◌&&◌, eqb, ltb, ◌⊎◌, List, [], ◌∷◌, length, Some, None, Option, sym, refl, ap, ◌∙◌, inl, inr, ⊎_elim, arith}
-use Rattle.std.proofs.lemmas.Bool.{ne_eqb, eq-eqb, or_left, or_right, or_parts, both_ways, leb-false, cond-true, cond-false, cases_lt, cases_Bool, eqb-true}
+use Rattle.std.proofs.lemmas.Bool.{ne_eqb, eq-eqb, or_left, or_right, or_parts, both_ways, leb-false, ltb-false, cond-true, cond-false, cases_lt, cases_Bool, eqb-true}
+use Rattle.std.proofs.lemmas.Option.{none-some}
 use Rattle.algebra.specs.Terms.{Term}
 use Rattle.algebra.specs.Texts.{text_of}
 use Rattle.trees.specs.declared.record.Gate.{Gate}
@@ -9,33 +10,40 @@ use Rattle.trees.specs.declared.record.Record.{Record}
 use Rattle.trees.specs.declared.record.Record.TheVariants.{Joins, Triggers}
 use Rattle.trees.specs.declared.refusal.TreeRefusal.{TreeRefusal}
 use Rattle.trees.specs.declared.refusal.TreeRefusal.TheVariants.{Input, Dependent, TooLong}
-use Rattle.trees.specs.Records.{first, second}
+use Rattle.trees.specs.Records.{first, LastIsGate, second}
 use Rattle.trees.specs.Triggers.{read, misplaced, triggered, with_trigger}
 use Rattle.trees.specs.Gates.{known, term_at, fault, new_term, gate_term}
 use Rattle.trees.specs.Means.{GatesJoin}
-use Rattle.trees.proofs.Progress.{past}
+use Rattle.trees.proofs.Slots.{past}
 
 -- what a record without a fault has
 pub record Sound (E : ℕ) (rs : List Record) (r : Record) : Type 0 where
   pub one : known E rs (first r) ≡ true
   pub two : known E rs (second r) ≡ true
   pub placed : misplaced rs r ≡ false
+  pub short : ltb 511 (length (text_of (new_term rs r))) ≡ false
 
-some_none : (f : TreeRefusal) → Some f ≡ None → ⊥
-some_none f e = let z : ◌≡◌ {A = ℕ} 0 1 = cc in omega arith
-
-sound_from : (E : ℕ) (rs : List Record) (r : Record) (k l m n : Bool) → known E rs (first r) ≡ k → known E rs (second r) ≡ l → misplaced rs r ≡ m → cond {A = Option TreeRefusal} (k && l) (cond m (Some Dependent) (cond n (Some TooLong) None)) (Some Input) ≡ None → Sound E rs r
-sound_from E rs r true true true n p q s h = absurd (some_none _ h)
-sound_from E rs r true true false n p q s h = record { one = p; two = q; placed = s }
-sound_from E rs r true false m n p q s h = absurd (some_none _ h)
-sound_from E rs r false l m n p q s h = absurd (some_none _ h)
+sound_from : (E : ℕ) (rs : List Record) (r : Record) (k l m n : Bool) → known E rs (first r) ≡ k → known E rs (second r) ≡ l → misplaced rs r ≡ m → ltb 511 (length (text_of (new_term rs r))) ≡ n → cond {A = Option TreeRefusal} (k && l) (cond m (Some Dependent) (cond n (Some TooLong) None)) (Some Input) ≡ None → Sound E rs r
+sound_from E rs r true true true n p q s t h = absurd (none-some _ (sym h))
+sound_from E rs r true true false true p q s t h = absurd (none-some _ (sym h))
+sound_from E rs r true true false false p q s t h = record { one = p; two = q; placed = s; short = t }
+sound_from E rs r true false m n p q s t h = absurd (none-some _ (sym h))
+sound_from E rs r false l m n p q s t h = absurd (none-some _ (sym h))
 
 pub sound : (E : ℕ) (rs : List Record) (r : Record) → fault E rs r ≡ None → Sound E rs r
-sound E rs r h = sound_from E rs r (known E rs (first r)) (known E rs (second r)) (misplaced rs r) (ltb 511 (length (text_of (new_term rs r)))) refl refl refl h
+sound E rs r h = sound_from E rs r (known E rs (first r)) (known E rs (second r)) (misplaced rs r) (ltb 511 (length (text_of (new_term rs r)))) refl refl refl refl h
 
 abbrev pub Fine : ℕ → List Record → Type 0
 Fine E [] = Unit {0}
 Fine E (r ∷ rs) = Sound E rs r × Fine E rs
+
+-- the text of the last record's gate is not too long
+pub last_short : (E n : ℕ) (rs : List Record) → length rs ≡ n → LastIsGate rs → Fine E rs → length (text_of (term_at rs (63 + n))) ≤ 511
+last_short E n [] m l f = absurd l
+last_short E n (Joins g a b ∷ rs) m l f =
+    let here = cond-true (eqb (63 + n) (64 + length rs)) (gate_term g (term_at rs a) (term_at rs b)) (term_at rs (63 + n)) (eq-eqb (63 + n) (64 + length rs) (omega arith)) in
+    omega (arith, ltb-false 511 _ f.0.short, ap (λ t. length (text_of t)) here)
+last_short E n (Triggers t d ∷ rs) m l f = absurd l
 
 pub record Settled (E : ℕ) (rs : List Record) (i : ℕ) : Type 0 where
   pub there : known E rs i ≡ true

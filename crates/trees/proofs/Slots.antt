@@ -1,60 +1,80 @@
--- The texts and marks of the inputs, one after another.
+-- The inputs at their places.
 -- Assumes nothing.
-use Rattle.std.proofs.Common.{◌≡◌, ℕ, ◌+◌, ◌<◌, Bool, true, false, ltb, List, length, get_or, set, replicate, Some, None, Option, sym, refl, ap, ◌∙◌, subst, ⊎_elim, arith}
-use Rattle.std.proofs.lemmas.List.{get_or-replicate, get_or_past, get_or-set_same, get_or-set_other}
-use Rattle.std.proofs.lemmas.Bool.{cases_lt, cases_eq, le-ltb, lt-ltb}
-use Rattle.algebra.specs.Terms.{Term, leaf}
+use Rattle.std.proofs.Common.{◌≡◌, ℕ, zero, suc, ◌+◌, ◌≤◌, Bool, true, false, cond, ◌||◌, List, [], ◌∷◌, length, get_or, replicate, Some, None, Option, sym, refl, ap, ◌∙◌, subst, arith}
+use Rattle.std.proofs.lemmas.Bool.{le-ltb, ne_eqb, or_from}
+use Rattle.algebra.specs.Terms.{Term}
 use Rattle.algebra.specs.Texts.{text_of}
-use Rattle.texts.specs.Held.{used}
 use Rattle.texts.specs.declared.text.Text.{Text}
-use Rattle.texts.proofs.Grow.{used_short}
-use Rattle.trees.specs.Held.{Slot}
+use Rattle.trees.specs.declared.inputs.Input.{Input}
+use Rattle.trees.specs.declared.inputs.Inputs.{Inputs}
+use Rattle.trees.specs.declared.record.Record.{Record}
+use Rattle.trees.specs.declared.record.Record.TheVariants.{Joins, Triggers}
+use Rattle.trees.specs.Gates.{known, term_at}
+use Rattle.trees.specs.Held.{Holds, Slot, input_at, text_in, read_in}
+use Rattle.trees.specs.Triggers.{read}
 
--- a list of one value has it everywhere, as the default too
-pub all_none : {X : Type 0} (n : ℕ) (x : X) (i : ℕ) → get_or (replicate n x) i x ≡ x
-all_none n x i = ⊎_elim (λ l. get_or-replicate n i x x l) (λ g. get_or_past (replicate n x) i x (simp lib.ListN.length-replicate g)) (cases_lt i n)
+some_slot : (k : Bool) (x : Text) (t : Term ℕ) → Slot k (Some x) t → (k ≡ true) × (x ≡ text_of t)
+some_slot true x t s = (refl, s)
+some_slot false x t s = absurd s
 
-pub slots_none : (i : ℕ) → Slot (ltb i 0) (get_or (replicate 96 None) i None) (leaf i)
-slots_none i =
-    let P : Bool → Type 0 = λ b. Slot b (get_or (replicate 96 None) i None) (leaf i) in
-    let Q : Option Text → Type 0 = λ o. Slot false o (leaf i) in
-    subst P (sym (le-ltb i 0 (omega arith))) (subst Q (sym (all_none 96 None i)) tt)
+none_slot : (k : Bool) (t : Term ℕ) → Slot k None t → k ≡ false
+none_slot true t s = absurd s
+none_slot false t s = refl
 
-pub slots_letter : (ts : List (Option Text)) (e at : ℕ) (x : Text) → e < length ts → at ≡ e → used x ≡ text_of (leaf e) → ((i : ℕ) → Slot (ltb i e) (get_or ts i None) (leaf i)) → (i : ℕ) → Slot (ltb i (e + 1)) (get_or (set ts at (Some x)) i None) (leaf i)
-slots_letter ts e at x room same u old i =
-    let P : Option Text → Bool → Type 0 = λ o b. Slot b o (leaf i) in
-    let at_here : i ≡ e → Slot (ltb i (e + 1)) (get_or (set ts at (Some x)) i None) (leaf i) = λ here.
-    let a : get_or (set ts at (Some x)) i None ≡ Some x = ap (λ (k : ℕ). get_or (set ts at (Some x)) k None) (here ∙ sym same) ∙ get_or-set_same ts at (Some x) None (omega arith) in
-    let b : ltb i (e + 1) ≡ true = lt-ltb i (e + 1) (omega arith) in
-    subst (λ o. P o (ltb i (e + 1))) (sym a) (subst (λ b. P (Some x) b) (sym b) (u ∙ ap (λ (k : ℕ). text_of (leaf k)) (sym here))) in
-    let elsewhere : (i ≡ e → ⊥) → Slot (ltb i (e + 1)) (get_or (set ts at (Some x)) i None) (leaf i) = λ there.
-    let a : get_or (set ts at (Some x)) i None ≡ get_or ts i None = get_or-set_other ts at i (Some x) None (λ z. there (z ∙ same)) in
-    let b : ltb i (e + 1) ≡ ltb i e = ⊎_elim (λ l. lt-ltb i (e + 1) (omega arith) ∙ sym (lt-ltb i e l)) (λ g. le-ltb i (e + 1) (omega arith) ∙ sym (le-ltb i e g)) (cases_lt i e) in
-    subst (λ o. P o (ltb i (e + 1))) (sym a) (subst (λ z. P (get_or ts i None) z) (sym b) (old i)) in
-    ⊎_elim at_here elsewhere (cases_eq i e)
+module _ {E : ℕ} {rs : List Record} {s : Inputs} (h : Holds E rs s) (i : ℕ) where
+  -- an input with a text is known, and the text is its term's
+  pub held : (x : Text) → Some x ≡ text_in (input_at s i) → (known E rs i ≡ true) × (x ≡ text_of (term_at rs i))
+  held x e = some_slot (known E rs i) x (term_at rs i) (subst (λ o. Slot (known E rs i) o (term_at rs i)) (sym e) (h.texts i))
 
--- an input with a text is known
-known_some : (k : Bool) (x : Text) (t : (Term ℕ)) → Slot k (Some x) t → k ≡ true
-known_some true x t s = refl
-known_some false x t s = absurd s
+  pub unheld : None ≡ text_in (input_at s i) → known E rs i ≡ false
+  unheld e = none_slot (known E rs i) (term_at rs i) (subst (λ o. Slot (known E rs i) o (term_at rs i)) (sym e) (h.texts i))
 
-pub is_known : (k : Bool) (x : Text) (t : (Term ℕ)) (o : Option Text) → Some x ≡ o → Slot k o t → k ≡ true
-is_known k x t o e s = known_some k x t (subst (λ z. Slot k z t) (sym e) s)
+-- no gate stands past the last record
+pub past : (E : ℕ) (rs : List Record) (i : ℕ) → E ≤ 64 → 64 + length rs ≤ i → known E rs i ≡ false
+past E [] i e h = le-ltb i E (omega arith)
+past E (Joins g a b ∷ rs) i e h = or_from _ _ (ne_eqb i (64 + length rs) (λ z. omega arith)) (past E rs i e (omega arith))
+past E (Triggers t d ∷ rs) i e h = past E rs i e (omega arith)
 
-used_some : (k : Bool) (x : Text) (t : (Term ℕ)) → Slot k (Some x) t → used x ≡ text_of t
-used_some true x t s = s
-used_some false x t s = absurd s
+-- an input that is not known was not read
+unread_unknown : (k : Bool) (o : Option Input) (t : Term ℕ) → k ≡ false → Slot k (text_in o) t → read_in o ≡ false
+unread_unknown k None t e s = refl
+unread_unknown k (Some x) t e s = absurd (subst (λ b. Slot b (Some x.text) t) e s)
 
-pub is_used : (k : Bool) (x : Text) (t : (Term ℕ)) (o : Option Text) → Some x ≡ o → Slot k o t → used x ≡ text_of t
-is_used k x t o e s = used_some k x t (subst (λ z. Slot k z t) (sym e) s)
+-- no record has read the place of the next gate
+pub unread_next : (E : ℕ) (rs : List Record) (s : Inputs) (i : ℕ) → Holds E rs s → 64 + length rs ≤ i → read rs i ≡ false
+unread_next E rs s i h l =
+    sym (h.reads i) ∙ unread_unknown (known E rs i) (input_at s i) (term_at rs i) (past E rs i (omega (arith, h.events)) l) (h.texts i)
 
--- what a text has is not too long
-pub short : (x : Text) (w : List ℕ) → used x ≡ w → ltb 511 (length w) ≡ false
-short x w u = le-ltb 511 (length w) (omega (arith, ap length u, used_short x))
+-- a text is put at a place that is new, or at one that is known
+pub slot_added : (here k : Bool) (o : Option Text) (x : Text) (t u : Term ℕ) → x ≡ text_of t → Slot k o u → Slot (here || k) (cond here (Some x) o) (cond here t u)
+slot_added true k o x t u w s = w
+slot_added false k o x t u w s = s
 
-unknown_none : (k : Bool) (t : (Term ℕ)) → Slot k None t → k ≡ false
-unknown_none true t s = absurd s
-unknown_none false t s = refl
+pub slot_changed : (here k : Bool) (o : Option Text) (x : Text) (t u : Term ℕ) → (here ≡ true → k ≡ true) → x ≡ text_of t → Slot k o u → Slot k (cond here (Some x) o) (cond here t u)
+slot_changed true k o x t u there w s = subst (λ b. Slot b (Some x) t) (sym (there refl)) w
+slot_changed false k o x t u there w s = s
 
-pub is_unknown : (k : Bool) (t : (Term ℕ)) (o : Option Text) → None ≡ o → Slot k o t → k ≡ false
-is_unknown k t o e s = unknown_none k t (subst (λ z. Slot k z t) (sym e) s)
+-- what is put is unread, and the place was unread before
+pub still_unread : (here old : Bool) → (here ≡ true → old ≡ false) → cond here false old ≡ old
+still_unread true old h = sym (h refl)
+still_unread false old h = refl
+
+pub swapped : (a b c : Bool) → (b || (a || c)) ≡ (a || (b || c))
+swapped true true c = refl
+swapped true false c = refl
+swapped false b c = refl
+
+all_none : {X : Type 0} (n i : ℕ) (x : X) → get_or (replicate n x) i x ≡ x
+all_none zero i x = refl
+all_none (suc n) zero x = refl
+all_none (suc n) (suc i) x = all_none n i x
+
+-- the inputs of a tree with no event
+pub holds_none : Holds 0 [] (record { places = replicate 96 None })
+holds_none =
+    let none : (i : ℕ) → ◌≡◌ {A = Option Input} (get_or (replicate 96 None) i None) None = λ i. all_none 96 i None in
+    record {
+      events = omega arith;
+      texts = λ i. rw (none i, le-ltb i 0 (omega arith)) tt;
+      reads = λ i. ap read_in (none i);
+    }

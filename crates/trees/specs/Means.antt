@@ -3,7 +3,6 @@
 use Rattle.std.specs.Prelude.{◌≡◌, ℕ, ◌+◌, ◌<◌, true, List, [], ◌∷◌, ◌++◌, length}
 use Rattle.algebra.specs.Terms.{Term}
 use Rattle.algebra.specs.Texts.{text_of, Whole, IsText}
-use Rattle.texts.specs.Held.{used}
 use Rattle.trees.specs.declared.record.Record.{Record}
 use Rattle.trees.specs.declared.record.Record.TheVariants.{Joins, Triggers}
 use Rattle.trees.specs.declared.reader.Tree.{Tree}
@@ -38,12 +37,12 @@ pub record Means (bs : List ℕ) (t : Tree) : Type 0 where
   pub term : ℕ → Term ℕ
   pub gates : GatesJoin term records
   pub events : (e : ℕ) → e < t.events → term e ≡ triggered term records e
-  pub source : used t.source ≡ text_of (term (63 + length records))
+  pub source : t.source ≡ text_of (term (63 + length records))
 
 -- two trees with the same number of events and the same source text
 pub record SameTree (s t : Tree) : Type 0 where
   pub events : s.events ≡ t.events
-  pub source : used s.source ≡ used t.source
+  pub source : s.source ≡ t.source
 
 -- one whole term over the letters of E events, and a text
 pub record Source (E : ℕ) (bs : List ℕ) : Type 0 where

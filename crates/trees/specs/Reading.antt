@@ -2,7 +2,6 @@
 -- Assumes nothing.
 use Rattle.std.specs.Prelude.{◌≡◌, ℕ, ◌+◌, ◌<◌, ◌≤◌, ◌⊎◌, List, [], ◌∷◌, length, Some, None, Ok, Err, Option, Result, ◌≢◌}
 use Rattle.algebra.specs.Texts.{text_of}
-use Rattle.texts.specs.Held.{used}
 use Rattle.texts.specs.declared.text.Text.{Text}
 use Rattle.trees.specs.declared.record.Record.{Record}
 use Rattle.trees.specs.declared.refusal.TreeRefusal.{TreeRefusal}
@@ -23,7 +22,7 @@ pub data Answer : Type 0 where
   refuses : ℕ → Answer
 
 abbrev pub answer : Result Tree TreeRefusal → Answer
-answer (Ok t) = gives t.events (used t.source)
+answer (Ok t) = gives t.events t.source
 answer (Err e) = refuses (tree_code e)
 
 -- why the reading of n records stops after the records rs, and what comes of it

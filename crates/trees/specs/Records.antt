@@ -3,6 +3,8 @@
 use Rattle.std.specs.Prelude.{◌≡◌, ℕ, List, [], ◌∷◌, ◌++◌}
 use Rattle.trees.specs.declared.record.Gate.{Gate}
 use Rattle.trees.specs.declared.record.Gate.TheVariants.{Or, And, Pand, Before}
+use Rattle.trees.specs.declared.record.Kind.{Kind}
+use Rattle.trees.specs.declared.record.Kind.TheVariants.{Joins as joins, Triggers as triggers}
 use Rattle.trees.specs.declared.record.Record.{Record}
 use Rattle.trees.specs.declared.record.Record.TheVariants.{Joins, Triggers}
 
@@ -11,6 +13,11 @@ kind_of Or = 0
 kind_of And = 1
 kind_of Pand = 2
 kind_of Before = 3
+
+-- the byte of a kind; that of an FDEP is 4
+abbrev pub kind_byte : Kind → ℕ
+kind_byte (joins g) = kind_of g
+kind_byte triggers = 4
 
 -- kind, first input, second input; an FDEP has the kind 4
 abbrev pub fields : Record → List ℕ
@@ -30,6 +37,16 @@ pub record Front (bs : List ℕ) (r : Record) (rest : List ℕ) : Type 0 where
 
 abbrev pub NoRecord : List ℕ → Type 0
 NoRecord bs = (r : Record) (rest : List ℕ) → Front bs r rest → ⊥
+
+-- the record of a kind with these inputs
+abbrev pub record_of : Kind → ℕ → ℕ → Record
+record_of (joins g) a b = Joins g a b
+record_of triggers t d = Triggers t d
+
+-- what a record makes of its inputs
+abbrev pub kind : Record → Kind
+kind (Joins g a b) = joins g
+kind (Triggers t d) = triggers
 
 abbrev pub first : Record → ℕ
 first (Joins g a b) = a

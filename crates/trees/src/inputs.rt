@@ -1,32 +1,37 @@
-// The texts of a tree's inputs, as its records give them.
-ghost use Rattle.std.specs.Prelude.{◌≡◌, ℕ, ◌<◌, ◌≤◌, true, ◌||◌, List, [], length, is_some, ◌==◌, nat_le};
-ghost use Rattle.std.specs.Option.{option_map};
+// The inputs of a tree: their texts, as its records give them, and which of them a record has read.
+ghost use Rattle.std.specs.Prelude.{◌≡◌, ℕ, ◌<◌, ◌≤◌, false, cond, ◌||◌, Some, List, [], length, option_map, IsSome, ◌==◌, nat_le};
 ghost use Rattle.algebra.specs.Terms.{leaf};
 ghost use Rattle.algebra.specs.Texts.{text_of};
-ghost use Rattle.texts.specs.Held.{used};
-ghost use Rattle.trees.specs.Held.{Holds, After, text_at};
+ghost use Rattle.trees.specs.Held.{Holds, After, input_at, text_in, read_in};
 ghost use Rattle.trees.specs.declared.record.Record.{Record};
 ghost use Rattle.trees.specs.declared.record.Record.TheVariants.{Joins, Triggers};
 
+use crate::counts::Counts;
 use crate::join::{gate_text, triggered_text};
 use crate::record::{Gate, Record};
 use crate::refusal::TreeRefusal;
 use texts::text::Text;
 
-// By input: the events from 0, and the gate of record k at 64 + k.
+// An input: its text, and whether a record has read it.
 #[derive(Clone, Copy)]
+struct Input {
+    text: Text,
+    is_read: bool,
+}
+
+// By place, in fixed memory: the events from 0, and the gate of record k at 64 + k.
+#[derive(Drop)]
 pub struct Inputs {
-    pub texts: [Option<Text>; 96],
-    pub read: [bool; 96],
+    places: [Option<Input>; 96],
 }
 
 // The letter of an event.
 fn letter_text(event: u8) -> Text
     requires { event < 24 }
-    ensures { used result ≡ text_of (leaf event) }
+    ensures { result ≡ text_of (leaf event) }
 {
     let mut text = Text::empty();
-    let _ = text.append(&[b'a' + event]);
+    text.append(&[b'a' + event]).unwrap();
     text
 }
 
@@ -39,76 +44,84 @@ fn misplaced(trigger: u8, dependent: u8, was_read: bool) -> bool
 
 impl Inputs {
     // The inputs of a tree before its first record.
-    pub fn new(events: u8) -> Inputs
-        requires { events ≤ 24 }
-        ensures { Holds events [] result }
+    pub fn new(counts: Counts) -> Inputs
+        ensures { Holds counts.events [] result }
     {
-        let mut texts = [None; 96];
-        for e in 0..events {
-            texts[usize::from(e)] = Some(letter_text(e));
+        // One event after another: `array::from_fn` moves all the places, and a tree is then read several times slower.
+        let mut inputs = Inputs { places: [None; 96] };
+        for event in 0..counts.events {
+            inputs.put(usize::from(event), letter_text(event));
         }
-        Inputs {
-            texts,
-            read: [false; 96],
-        }
+        inputs
+    }
+
+    // The input at a place, where there is one.
+    fn get(&self, place: u8) -> Option<&Input>
+        ensures { option_map (λ x. x.now) result ≡ input_at self.now place }
+    {
+        self.places.get(usize::from(place))?.as_ref()
     }
 
     // The text of an input, where it has one.
     pub fn text(&self, input: u8) -> Option<&Text>
-        requires { length self.now.texts ≡ 96 }
-        ensures is { option_map (λ x. x.now) result ≡ text_at self.now input }
-        ensures within { is_some result ≡ true → input < 96 }
+        ensures { option_map (λ x. x.now) result ≡ text_in (input_at self.now input) }
     {
-        if input < 96 {
-            self.texts[usize::from(input)].as_ref()
-        } else {
-            None
-        }
+        self.get(input).map(|held| &held.text)
+    }
+
+    // The input at a place has this text, which no record has read.
+    fn put(&mut self, place: usize, text: Text)
+        requires { place < 96 }
+        ensures texts { (i : ℕ) → text_in (input_at self.new i) ≡ cond (i == place) (Some text) (text_in (input_at self.old i)) }
+        ensures reads { (i : ℕ) → read_in (input_at self.new i) ≡ cond (i == place) false (read_in (input_at self.old i)) }
+    {
+        self.places[place] = Some(Input {
+            text,
+            is_read: false,
+        });
+    }
+
+    // A record reads this input.
+    fn mark(&mut self, place: u8)
+        requires { IsSome (input_at self.old place) }
+        ensures texts { (i : ℕ) → text_in (input_at self.new i) ≡ text_in (input_at self.old i) }
+        ensures reads { (i : ℕ) → read_in (input_at self.new i) ≡ (i == place || read_in (input_at self.old i)) }
+    {
+        self.places[usize::from(place)].as_mut().unwrap().is_read = true;
     }
 
     // Record k is a gate.
     fn add_gate(&mut self, k: usize, gate: Gate, first: u8, second: u8) -> Result<(), TreeRefusal>
-        requires place { k < 32 }
-        requires sized { length self.old.texts ≡ 96 }
+        requires { k < 32 }
         ensures { (E : ℕ) (rs : List Record) → Holds E rs self.old → length rs ≡ k → After E rs (Joins gate first second) self.new result }
     {
-        let Some(a) = self.text(first) else {
-            return Err(TreeRefusal::Input);
-        };
-        let Some(b) = self.text(second) else {
-            return Err(TreeRefusal::Input);
-        };
+        let a = self.text(first).ok_or(TreeRefusal::Input)?;
+        let b = self.text(second).ok_or(TreeRefusal::Input)?;
         let text = gate_text(gate, a.as_bytes(), b.as_bytes())?;
-        self.texts[64 + k] = Some(text);
-        self.read[usize::from(first)] = true;
-        self.read[usize::from(second)] = true;
+        self.put(64 + k, text);
+        self.mark(first);
+        self.mark(second);
         Ok(())
     }
 
     // The dependent has one more trigger.
     fn add_trigger(&mut self, trigger: u8, dependent: u8) -> Result<(), TreeRefusal>
-        requires { length self.old.texts ≡ 96 }
         ensures { (E : ℕ) (rs : List Record) → Holds E rs self.old → After E rs (Triggers trigger dependent) self.new result }
     {
-        let Some(a) = self.text(trigger) else {
-            return Err(TreeRefusal::Input);
-        };
-        let Some(b) = self.text(dependent) else {
-            return Err(TreeRefusal::Input);
-        };
-        if misplaced(trigger, dependent, self.read[usize::from(dependent)]) {
+        let a = self.get(trigger).ok_or(TreeRefusal::Input)?;
+        let b = self.get(dependent).ok_or(TreeRefusal::Input)?;
+        if misplaced(trigger, dependent, b.is_read) {
             return Err(TreeRefusal::Dependent);
         }
-        let text = triggered_text(b.as_bytes(), a.as_bytes())?;
-        self.texts[usize::from(dependent)] = Some(text);
-        self.read[usize::from(trigger)] = true;
+        let text = triggered_text(b.text.as_bytes(), a.text.as_bytes())?;
+        self.put(usize::from(dependent), text);
+        self.mark(trigger);
         Ok(())
     }
 
     // Record k comes after those before it.
     pub fn add(&mut self, k: usize, next: Record) -> Result<(), TreeRefusal>
-        requires place { k < 32 }
-        requires sized { length self.old.texts ≡ 96 }
+        requires { k < 32 }
         ensures { (E : ℕ) (rs : List Record) → Holds E rs self.old → length rs ≡ k → After E rs next self.new result }
     {
         match next {

@@ -11,28 +11,15 @@ use crate::refusal::TreeRefusal;
 use algebra::Operator;
 use texts::text::Text;
 
-fn byte(operator: Operator) -> u8
-    ensures { result ≡ operator_byte operator }
-{
-    match operator {
-        Operator::Or => b'+',
-        Operator::And => b'*',
-        Operator::Before => b'<',
-        Operator::Simultaneous => b'=',
-        Operator::Inclusive => b'[',
-    }
-}
-
 // The operator and its two sides.
 fn joined(operator: Operator, left: &[u8], right: &[u8]) -> Result<Text, TreeRefusal>
     ensures { Fit result (operator_byte operator ∷ (left.now ++ right.now)) }
 {
     let mut text = Text::empty();
-    if text.append(&[byte(operator)]) && text.append(left) && text.append(right) {
-        Ok(text)
-    } else {
-        Err(TreeRefusal::TooLong)
-    }
+    text.append(&[u8::from(operator)])?;
+    text.append(left)?;
+    text.append(right)?;
+    Ok(text)
 }
 
 // The text of a gate.

@@ -1,28 +1,35 @@
 // Why the bytes of a tree are refused.
 ghost use Rattle.std.specs.Prelude.{◌≡◌};
-ghost use Rattle.trees.specs.Refusals.{tree_code};
+ghost use Rattle.trees.specs.declared.refusal.TreeRefusal.TheVariants.{TooLong};
 
-#[derive(Clone, Copy)]
+use algebra::Refusal;
+use texts::text::NoRoom;
+use thiserror::Error;
+
+#[derive(Clone, Copy, Debug, PartialEq, Eq, Error)]
 pub enum TreeRefusal {
-    // The bytes end too soon or go on, or a record's map or kind is wrong.
+    #[error("it is too short, has bytes left over, or a record's map or kind is wrong")]
     Form,
-    // There are too few or too many events or records.
+    #[error("it has not 1 to 24 events and 1 to 32 records")]
     Counts,
-    // An input is no event of the tree and no earlier gate.
+    #[error("an input is no event of the tree and no earlier gate")]
     Input,
-    // The dependent is no event, its own trigger, or was read by an earlier record.
+    #[error("a dependent is no event, its own trigger, or read already")]
     Dependent,
-    // A record makes a text above 511 bytes.
+    #[error("a record makes a text above 511 bytes")]
     TooLong,
-    // The last record is an FDEP.
+    #[error("the last record is an FDEP")]
     NoSource,
 }
 
-impl TreeRefusal {
-    // The number of the refusal.
-    pub fn code(self) -> u8
-        ensures { result ≡ tree_code self }
-    {
+impl Refusal for TreeRefusal {
+    ghost use Rattle.trees.specs.Refusals.{tree_code, tree_codes_differ};
+
+    ghost number = { tree_code };
+
+    ghost distinct = { tree_codes_differ };
+
+    fn code(self) -> u8 {
         match self {
             TreeRefusal::Form => 1,
             TreeRefusal::Counts => 2,
@@ -31,5 +38,13 @@ impl TreeRefusal {
             TreeRefusal::TooLong => 5,
             TreeRefusal::NoSource => 6,
         }
+    }
+}
+
+impl From<NoRoom> for TreeRefusal {
+    ghost from_gives = { λ _ refusal. refusal ≡ TooLong };
+
+    fn from(_no: NoRoom) -> TreeRefusal {
+        TreeRefusal::TooLong
     }
 }

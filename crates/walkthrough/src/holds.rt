@@ -6,7 +6,7 @@ use dates::Date;
 use failure_log::{Log, LogRefusal};
 
 // What came of the drop, and who held the log.
-#[derive(Clone, Copy)]
+#[derive(Clone, Copy, Debug, PartialEq, Eq)]
 pub struct Attempt {
     pub dropped: Result<(), LogRefusal>,
     pub custodian: u8,
@@ -24,12 +24,6 @@ pub fn drop_under_hold<T: Date>(
 {
     let slip = log.hold(custodian)?;
     let dropped = log.drop_before(bytes);
-    let lifted = log.lift(slip);
-    match lifted {
-        Ok(holder) => Ok(Attempt {
-            dropped,
-            custodian: holder,
-        }),
-        Err(_) => unreachable(),
-    }
+    let custodian = log.lift(slip).unwrap();
+    Ok(Attempt { dropped, custodian })
 }

@@ -19,8 +19,6 @@ pub fn date_at<D: Date>(
     ensures size { length work.new ≡ length work.old }
 {
     let end = term_end(text, place)?;
-    match evaluate(&text[place..end], dating, work) {
-        Ok(at) => Some((end, at)),
-        Err(_) => None,
-    }
+    let date = evaluate(&text[place..end], dating, work).ok()?;
+    Some((end, date))
 }

@@ -1,39 +1,37 @@
 // The date of a table under a dating.
-ghost use Rattle.std.specs.Prelude.{◌≡◌, length, IfOk, Result};
+ghost use Rattle.std.specs.Prelude.{◌≡◌, IfOk, Result};
 ghost use Rattle.algebra.specs.Terms.{dating_of};
 ghost use Rattle.sequences.specs.Dates.{RowsDated, table_date};
-ghost use Rattle.sequences.specs.Tables.{KeepsDateOf, TableDated, held};
+ghost use Rattle.sequences.specs.Tables.{KeepsDateOf, TableDated};
 ghost use Rattle.sequences.specs.declared.refusals.TableRefusal.{TableRefusal};
 
 use super::Table;
-use crate::dating::earlier_of;
 use crate::refusals::TableRefusal;
+use crate::row::Row;
 use dates::Date;
-use texts::evaluation::is_dating;
+use texts::dating::Dating;
+
+// The earliest of the rows' dates, the first such row's, and never if there are no rows.
+// A loop: as `rev().fold(..)` the goals stay open in the generic D.
+fn earliest<D: Date>(rows: &[Row], dating: &Dating<'_, D>) -> D
+    ensures { result ≡ table_date D.kind (dating_of D.kind dating.now) rows.now }
+{
+    let mut earliest = D::never();
+    for row in rows.iter().rev() {
+        earliest = row.date(dating).earlier(earliest);
+    }
+    earliest
+}
 
 impl Table {
-    // The earliest of the rows' dates, the first such row's, and never if there are no rows.
-    fn earliest<D: Date>(&self, dating: &[D]) -> D
-        requires { length dating.now ≡ 24 }
-        ensures { result ≡ table_date D.kind (dating_of D.kind dating.now) (held self.now) }
-    {
-        let mut earliest = D::never();
-        for k in (0..self.len).rev() {
-            earliest = earlier_of(self.rows[k].date(dating), earliest);
-        }
-        earliest
-    }
-
     // The date of the table under the dating.
     pub fn date<D: Date>(&self, dating: &[D]) -> Result<D, TableRefusal>
         ensures outcome { TableDated D.kind dating.now self.now result }
         ensures only { (s : Result D TableRefusal) → TableDated D.kind dating.now self.now s → s ≡ result }
-        ensures earliest { IfOk result (λ p. RowsDated D.kind (dating_of D.kind dating.now) (held self.now) p) }
+        ensures earliest { IfOk result (λ p. RowsDated D.kind (dating_of D.kind dating.now) self.now p) }
         ensures keeps { IfOk result (λ p. KeepsDateOf D.kind dating.now self.now p) }
     {
-        if !is_dating(dating) {
-            return Err(TableRefusal::NoDating);
-        }
-        Ok(self.earliest(dating))
+        let dating = Dating::new(dating).ok_or(TableRefusal::NoDating)?;
+        Ok(earliest(&self.rows[..self.len], &dating))
     }
 }

@@ -1,26 +1,22 @@
-use Rattle.std.proofs.Common.{◌∙◌}
-use Rattle.algebra.specs.declared.Variable.TheVariants.{X, Y, Z}
-use Rattle.steps.specs.Readings.{request_of}
-use Rattle.assembly.specs.Writing.{map_of}
-use Rattle.assembly.proofs.Writes.{fits_place, fits_term, says_fields}
+use Rattle.std.proofs.Common.{◌≡◌, ℕ, length, map, take, vec_items, None, add-one, arith, subst}
+use Rattle.std.specs.Option.{option_map}
+use Rattle.std.proofs.Math.Seq.{take-length}
+use Rattle.steps.specs.Readings.{field_of, request_of}
+use Rattle.assembly.proofs.Writes.{AllAdded, one_more, fits_each, says_all}
 use Rattle.assembly.proofs.step_bytes.encode.Goals as goal
 
-pub add-requires-2 : goal.add-requires-2
-add-requires-2 c = rw c.place_field-place.ensures (fits_place _ c.requires.place)
+pub add-requires : goal.add-requires
+add-requires c = fits_each (request_of c.args.said.now) c.requires c.fields_of-fields.result c.loop-field.field-index c.fields_of-fields.ensures
 
-pub add-requires-3 : goal.add-requires-3
-add-requires-3 c = rw c.term_field-x.ensures (fits_term X _ (c.requires.terms X))
-
-pub add-requires-4 : goal.add-requires-4
-add-requires-4 c = rw c.term_field-y.ensures (fits_term Y _ (c.requires.terms Y))
-
-pub add-requires-5 : goal.add-requires-5
-add-requires-5 c = rw c.term_field-z.ensures (fits_term Z _ (c.requires.terms Z))
+pub loop-field-preserved : goal.loop-field-preserved
+loop-field-preserved c =
+    rw add-one
+    (one_more (option_map field_of) c.fields_of-fields.result None c.loop-field.field-index _ (vec_items c.loop-field.out) _ (omega arith) c.loop-field.invariant c.in_ok-add.ensures)
 
 pub returns : goal.returns
 returns c events s =
-    says_fields events (request_of c.args.said.now) c.map_byte-map.result _ _ _ _ _
-    c.way_field-way.ensures c.place_field-place.ensures c.term_field-x.ensures c.term_field-y.ensures c.term_field-z.ensures
-    _ _ _ _ _ _ c.in_ok-out.ensures.items
-    c.in_ok-add.ensures c.in_ok-add-2.ensures c.in_ok-add-3.ensures c.in_ok-add-4.ensures c.in_ok-add-5.ensures
-    (c.map_byte-map.ensures ∙ (λ i. map_of (c.stands.ensures i) (c.stands-2.ensures i) (c.stands-3.ensures i) (c.stands-4.ensures i) (c.stands-5.ensures i))) s
+    let xs = c.fields_of-fields.result in
+    let n : c.loop-field.field-index ≡ length xs = omega arith in
+    let all : AllAdded (map (option_map field_of) (take (length xs) xs)) (vec_items c.in_ok-out.out) (vec_items c.loop-field.out) = subst (λ (k : ℕ). AllAdded (map (option_map field_of) (take k xs)) (vec_items c.in_ok-out.out) (vec_items c.loop-field.out)) n c.loop-field.invariant in
+    says_all events (request_of c.args.said.now) c.map_byte.result xs _ c.fields_of-fields.ensures c.map_byte.ensures
+    (rw c.in_ok-out.ensures.items at (rw (take-length xs) at all)) s

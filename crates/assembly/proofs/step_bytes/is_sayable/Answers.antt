@@ -1,7 +1,10 @@
-use Rattle.steps.specs.Readings.{request_of}
+use Rattle.std.proofs.Common.{◌<◌, ◌≤◌, rules}
 use Rattle.assembly.proofs.Sayables.{decides_sayable}
 use Rattle.assembly.proofs.step_bytes.is_sayable.Goals as goal
 
-pub returns : goal.returns
-returns c =
-    decides_sayable c.args.events (request_of c.args.said.now) _ _ _ _ _ c.all_four.ensures c.is_placed.ensures c.is_term.ensures c.is_term-2.ensures c.is_term-3.ensures
+pub returns-then-said-lt65536 : goal.returns-then-said-lt65536
+returns-then-said-lt65536 c =
+    let s = c.args.said.now in
+    let number : (1 ≤ s.rule) × (s.rule ≤ 42) = search rules in
+    let place : s.place < 65536 = search rules in
+    decides_sayable c.args.events s c.are_terms.result number place c.are_terms.ensures

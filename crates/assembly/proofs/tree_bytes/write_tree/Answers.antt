@@ -1,4 +1,4 @@
-use Rattle.std.proofs.Common.{◌≡◌, ℕ, length, vec_items, subst, arith}
+use Rattle.std.proofs.Common.{◌≡◌, ◌<◌, ℕ, length, vec_items, subst, arith, rules}
 use Rattle.assembly.proofs.Laying.{Underway, written_none, written_more, written_all, one_layout, means_as_laid}
 use Rattle.assembly.proofs.tree_bytes.write_tree.Goals as goal
 
@@ -7,12 +7,14 @@ loop-one-init c = written_none _ _ c.args.records.now _ c.in_ok-bytes.ensures.it
 
 pub loop-one-preserved : goal.loop-one-preserved
 loop-one-preserved c =
-    written_more c.args.events c.in-Ok.count c.args.records.now c.loop-one.one-index _ (vec_items c.loop-one.bytes) _ c.record_bytes.result (omega arith) c.loop-one.invariant c.record_bytes.ensures c.in_ok-extend_from_slice.ensures.items
+    written_more c.args.events c.in_ok-count.count c.args.records.now c.loop-one.one-index _ (vec_items c.loop-one.bytes) _ c.bytes.result (omega arith) c.loop-one.invariant c.bytes.ensures c.in_ok-extend_from_slice.ensures.items
 
 pub returns : goal.returns
 returns c =
     let rs = c.args.records.now in
     let all : c.loop-one.one-index ≡ length rs = omega arith in
-    let lays = written_all c.args.events c.in-Ok.count rs (vec_items c.loop-one.bytes)
-    (subst (λ (n : ℕ). Underway c.args.events c.in-Ok.count rs n (vec_items c.loop-one.bytes)) all c.loop-one.invariant) (omega (arith, c.in-Ok.ensures)) (omega (arith, c.in-Ok.ensures)) in
-    record { written = lays; back = one_layout _; meaning = means_as_laid _ c.args.events rs lays }
+    let few : length rs < 256 = search rules in
+    let count : c.in_ok-count.count ≡ length rs = search rules in
+    let lays = written_all c.args.events c.in_ok-count.count rs (vec_items c.loop-one.bytes)
+    (subst (λ (n : ℕ). Underway c.args.events c.in_ok-count.count rs n (vec_items c.loop-one.bytes)) all c.loop-one.invariant) (omega arith) (omega arith) in
+    record { written = lays; many = tt; back = one_layout _; meaning = means_as_laid _ c.args.events rs lays }

@@ -1,13 +1,11 @@
 use Rattle.std.proofs.Common.{[], refl}
-use Rattle.derivation.specs.Views.{state_of}
+use Rattle.std.proofs.lemmas.Result.{err_from_is_err_and}
 use Rattle.derivation.proofs.Lawfuls.{lawful}
 use Rattle.derivation.proofs.job.derive.Goals as goal
 
-pub returns-in-Err-step_all : goal.returns-in-Err-step_all
-returns-in-Err-step_all c =
-    let opened = c.in-Ok.ensures.law [] c.new-bench.ensures.law.calls in
-    let made = c.in-Err-step_all.ensures _ opened.calls in
-    record {
-      job = (record { calls = made.calls; state = state_of c.step_all.new.self; walked = made.walked; then = lawful _ _ made.run }, refl);
-      left = refl;
-    }
+pub returns-in_err-step_all-clause-job : goal.returns-in_err-step_all-clause-job
+returns-in_err-step_all-clause-job c =
+    let p = err_from_is_err_and c.from_residual-in_err-step_all.result c.from_residual-in_err-step_all.ensures.1 in
+    let opened = c.in_ok-open.ensures.law [] c.new-bench.ensures.law.calls in
+    let made = c.in_err-step_all.ensures _ opened.calls in
+    rw (p.1, p.2) (record { calls = made.calls; state = c.step_all.new.self; walked = made.walked; then = lawful _ _ made.run }, refl)

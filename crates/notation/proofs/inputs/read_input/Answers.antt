@@ -1,10 +1,10 @@
-use Rattle.std.proofs.Common.{None, rules}
-use Rattle.notation.proofs.Naming.{one_name, named_letter, named_event, named_gate, not_named, empty_named, named_back}
+use Rattle.std.proofs.Common.{rules}
+use Rattle.notation.proofs.Naming.{one_name, named_letter, named_event, named_gate, named_back}
 use Rattle.notation.proofs.inputs.read_input.Goals as goal
 
 pub returns-in-len1 : goal.returns-in-len1
 returns-in-len1 c =
-    let n = named_letter c.args.word.now (search rules) c.read_letter.result c.read_letter.ensures in
+    let n = named_letter c.args.word.now (search rules) c.event_of.result c.event_of.ensures in
     record { named = n; one = one_name _; back = named_back _ _ n }
 
 pub returns-in-101 : goal.returns-in-101
@@ -16,13 +16,3 @@ pub returns-in-103 : goal.returns-in-103
 returns-in-103 c =
     let n = named_gate c.args.word.now (search rules) (search rules) (search rules) c.read_gate.result c.read_gate.ensures in
     record { named = n; one = one_name _; back = named_back _ _ n }
-
-pub returns-in_default : goal.returns-in_default
-returns-in_default c =
-    let n = empty_named c.args.word.now (search rules) in
-    record { named = n; one = one_name _; back = named_back _ None n }
-
-pub returns-in_default-2 : goal.returns-in_default-2
-returns-in_default-2 c =
-    let n = not_named c.args.word.now (search rules) (search rules) (search rules) in
-    record { named = n; one = one_name _; back = named_back _ None n }

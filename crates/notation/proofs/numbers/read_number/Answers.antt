@@ -1,14 +1,11 @@
 use Rattle.std.proofs.Common.{arith}
+use Rattle.std.specs.Str.{IsUtf8}
+use Rattle.std.proofs.lemmas.Grind.{common_steps}
 use Rattle.std.proofs.lemmas.Fmt.{IsAscii-from_digits}
-use Rattle.std.proofs.lemmas.Str.Parse.{digit_at}
 use Rattle.std.proofs.lemmas.Str.{IsUtf8-from_ascii}
 use Rattle.notation.proofs.numbers.read_number.Goals as goal
 
-pub returns-in_default-2 : goal.returns-in_default-2
-returns-in_default-2 c n h d = let p = digit_at c.args.word.now 0 d.digits d.some in omega (arith, p.0, p.1)
-
-pub returns-in_default-3 : goal.returns-in_default-3
-returns-in_default-3 c n h d = let p = digit_at c.args.word.now 0 d.digits d.some in omega (arith, p.0, p.1)
-
-pub returns-in-Err : goal.returns-in-Err
-returns-in-Err c n h d = c.in-Err.ensures.cases.0 (IsUtf8-from_ascii _ (IsAscii-from_digits _ d.digits))
+pub returns-in_err-ok : goal.returns-in_err-ok
+returns-in_err-ok c =
+    let none : IsUtf8 c.args.word.now → ⊥ = grind (arith, common_steps) in
+    rw c.from_residual.ensures (λ n h d. none (IsUtf8-from_ascii _ (IsAscii-from_digits _ d.digits)))

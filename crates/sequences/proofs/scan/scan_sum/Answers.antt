@@ -1,12 +1,11 @@
-use Rattle.std.proofs.Common.{◌≡◌, ℕ, ◌+◌, ◌<◌, ◌≤◌, List, [], length, get_or, take, set, replicate, sym, refl, ap, ◌∙◌, subst, arith}
-use Rattle.std.proofs.lemmas.List.{take_all}
+use Rattle.std.proofs.Common.{◌≡◌, ℕ, ◌<◌, ◌≤◌, true, false, List, [], length, get_or, take, set, replicate, sym, refl, ap, ◌∙◌, subst, arith}
 use Rattle.sequences.specs.Scans.{State, Keeps, Ready, run, start, step, stepped}
 use Rattle.sequences.specs.declared.row.Row.{Row}
 use Rattle.sequences.specs.declared.scan.Reading.{Reading}
 use Rattle.sequences.proofs.Padded.{padded_none, padded_blank}
-use Rattle.sequences.proofs.Scanning.{Good, step_good, fits_some, run_next, keeps_none, keeps_some, ends_small}
+use Rattle.sequences.proofs.Scanning.{Good, step_good, run_next, keeps_none, keeps_some}
 use Rattle.sequences.proofs.scan.scan_sum.Goals as goal
-use Rattle.sequences.proofs.scan.scan_sum.Goals.{in-Some, in_default, then-count-lt64, else-count-lt64}
+use Rattle.sequences.proofs.scan.scan_sum.Goals.{in_default, in-Some+else-is_last, in-Some+then-is_last, then-count-lt64, else-count-lt64}
 
 pub loop-byte-init : goal.loop-byte-init
 loop-byte-init c = (
@@ -20,13 +19,6 @@ loop-byte-init c = (
   subst (λ (g : Reading). g.sums ≤ 0) (sym c.start-reading.ensures) (omega arith),
   omega arith,
 )
-
-pub enter-requires : goal.enter-requires
-enter-requires c =
-    let g = c.loop-byte.reading in
-    let b = get_or c.args.text.now c.loop-byte.byte-index 0 in
-    let good = subst (Good g.parts g.sums) (sym c.step-step.ensures) (step_good g.wants g.parts g.sums b c.loop-byte.invariant.1) in
-    fits_some c.step-step.result c.in-Some.factor g.parts g.sums good c.in-Some.is
 
 pub loop-byte-preserved : goal.loop-byte-preserved
 loop-byte-preserved c =
@@ -46,11 +38,17 @@ loop-byte-preserved c =
     let count' = c.match-step.count in
     let on : State → Type 0 = λ x. Keeps x m.next rows' count' in (
       elim c.match-step.branch [
-        | in-Some w ↦
+        | in-Some+then-is_last w ↦
             subst on (sym (run_next text i h))
             (elim w.if-count-lt64.branch [
-              | then-count-lt64 u ↦ keeps_some st g rows count b m keep e w.in-Some.factor rows' count' w.in-Some.is (λ l. w.rows-is ∙ u.rows-is ∙ ap (λ (x : Row). set rows count x) u.enter.ensures) (λ l. absurd (omega arith)) (w.count-is ∙ ap (λ (n : ℕ). count + n) w.ends-count.ensures)
-              | else-count-lt64 u ↦ keeps_some st g rows count b m keep e w.in-Some.factor rows' count' w.in-Some.is (λ l. absurd (omega arith)) (λ l. w.rows-is ∙ u.rows-is) (w.count-is ∙ ap (λ (n : ℕ). count + n) w.ends-count.ensures)
+              | then-count-lt64 u ↦ keeps_some st g rows count b m keep e w.in-Some.factor rows' count' w.in-Some.is (λ l. w.rows-is ∙ u.rows-is ∙ ap (λ (x : Row). set rows count x) u.enter.ensures) (λ l. absurd (omega arith)) true (sym w.if-is_last.true ∙ w.is_last.ensures) w.count-is
+              | else-count-lt64 u ↦ keeps_some st g rows count b m keep e w.in-Some.factor rows' count' w.in-Some.is (λ l. absurd (omega arith)) (λ l. w.rows-is ∙ u.rows-is) true (sym w.if-is_last.true ∙ w.is_last.ensures) w.count-is
+            ])
+        | in-Some+else-is_last w ↦
+            subst on (sym (run_next text i h))
+            (elim w.if-count-lt64.branch [
+              | then-count-lt64 u ↦ keeps_some st g rows count b m keep e w.in-Some.factor rows' count' w.in-Some.is (λ l. w.rows-is ∙ u.rows-is ∙ ap (λ (x : Row). set rows count x) u.enter.ensures) (λ l. absurd (omega arith)) false (sym w.if-is_last.false ∙ w.is_last.ensures) (omega (arith, w.count-is))
+              | else-count-lt64 u ↦ keeps_some st g rows count b m keep e w.in-Some.factor rows' count' w.in-Some.is (λ l. absurd (omega arith)) (λ l. w.rows-is ∙ u.rows-is) false (sym w.if-is_last.false ∙ w.is_last.ensures) (omega (arith, w.count-is))
             ])
         | in_default w ↦
             subst on (sym (run_next text i h))
@@ -60,11 +58,5 @@ loop-byte-preserved c =
       good.ready,
       omega (arith, good.parts, c.loop-byte.invariant.2),
       omega (arith, good.sums, c.loop-byte.invariant.3),
-      elim c.match-step.branch [ in-Some w ↦ omega (arith, w.count-is, w.ends-count.ensures, ends_small g.parts, c.loop-byte.invariant.4) | in_default w ↦ omega (arith, w.count-is, c.loop-byte.invariant.4) ],
+      elim c.match-step.branch [ in-Some+then-is_last w ↦ omega (arith, w.count-is, c.loop-byte.invariant.4) | in-Some+else-is_last w ↦ omega (arith, w.count-is, c.loop-byte.invariant.4) | in_default w ↦ omega (arith, w.count-is, c.loop-byte.invariant.4) ],
     )
-
-pub returns : goal.returns
-returns c =
-    let text = c.args.text.now in
-    let h : length text ≤ c.loop-byte.byte-index = omega arith in
-    subst (λ (bs : List ℕ). Keeps (run start bs) c.loop-byte.reading c.loop-byte.rows c.loop-byte.count) (take_all _ text h) c.loop-byte.invariant.0

@@ -1,9 +1,8 @@
-use Rattle.std.proofs.Common.{length}
 use Rattle.steps.proofs.Running.{Running}
 use Rattle.steps.proofs.file.apply_steps.Given as goal
 
-abbrev pub invariant-loop-bytes : goal.invariant-loop-bytes
-invariant-loop-bytes l = Running l.events l.initial.progress.present l.file l.progress.step l.progress.present l.progress.left.now
-
-abbrev pub decreases-loop-bytes : goal.decreases-loop-bytes
-decreases-loop-bytes l = length l.progress.left.now
+abbrev pub invariant-loop-record : goal.invariant-loop-record
+invariant-loop-record l =
+    (goal.iterator-loop-record).can_next l.record-iterator ×
+    (goal.iterator-loop-record).is_finite l.record-iterator ×
+    Running l.events l.initial.present l.file l.record-iterator.step l.present l.record-iterator.left.now

@@ -1,27 +1,22 @@
-use Rattle.std.proofs.Common.{◌≡◌, ℕ, List, ◌++◌, length, Option, sym, refl, ap, ◌∙◌, subst, Bor}
-use borrow.Author.Tests.{both_ways}
-use Rattle.std.proofs.lemmas.Slice.Eq.{starts_is}
-use Rattle.std.proofs.lemmas.List.{take_rest}
-use Rattle.steps.specs.Sides.{Takes}
-use Rattle.steps.proofs.Taken.{new_term_lem}
-use Rattle.steps.proofs.matching.bind.Goals as goal
+use Rattle.std.proofs.Common.{◌≡◌, ℕ, List, ◌++◌, None, Some, Option, sym, refl, ap, ◌∙◌, subst, Bor}
 use Rattle.std.proofs.lemmas.Bool.Decides.{Decides-eqb}
+use Rattle.std.proofs.lemmas.Slice.Eq.{strip_prefix_is}
+use Rattle.steps.specs.Sides.{Takes}
+use Rattle.steps.proofs.matching.bind.Goals as goal
 
-pub returns-in_ok-end-in-None : goal.returns-in_ok-end-in-None
-returns-in_ok-end-in-None c =
-    let found = c.in_ok-end-in-None.ensures in
-    new_term_lem c.args.bound c.args.text.now c.in_ok-end-in-None.end found.0 c.in-None.is found.1
-
-pub returns-then-starts_with : goal.returns-then-starts_with
-returns-then-starts_with c =
+pub returns-in_err-strip_prefix-in-Some : goal.returns-in_err-strip_prefix-in-Some
+returns-in_err-strip_prefix-in-Some c =
     let text = c.args.text.now in
-    let w = c.in-Some.term in
-    let front = (starts_is Decides-eqb text w.now _ c.starts_with.ensures.value).0 c.if-starts_with.true in
-    (subst (λ (o : Option (Bor (List ℕ))). Takes o w.now) (sym c.in-Some.is) refl, front ∙ ap (λ (l : List ℕ). w.now ++ l) (sym (take_rest text (length w.now))))
+    let term = c.in-Some.term in
+    rw c.from_residual-in_err-strip_prefix-in-Some.ensures
+    (λ w rest takes e.
+    let is : w ≡ term.now = subst (λ (o : Option (Bor (List ℕ))). Takes o w) c.in-Some.is takes in
+    strip_prefix_is Decides-eqb text term.now None c.in_err-strip_prefix-in-Some.ensures.cases rest (e ∙ ap (λ (l : List ℕ). l ++ rest) is))
 
-pub returns-else-starts_with : goal.returns-else-starts_with
-returns-else-starts_with c v rest takes e =
+pub returns-in_ok-strip_prefix-in-Some : goal.returns-in_ok-strip_prefix-in-Some
+returns-in_ok-strip_prefix-in-Some c =
     let text = c.args.text.now in
-    let w = c.in-Some.term in
-    let is : v ≡ w.now = subst (λ (o : Option (Bor (List ℕ))). Takes o v) c.in-Some.is takes in
-    both_ways _ c.if-starts_with.false ((starts_is Decides-eqb text w.now _ c.starts_with.ensures.value).1 rest (e ∙ ap (λ (l : List ℕ). l ++ rest) is))
+    let term = c.in-Some.term in (
+      subst (λ (o : Option (Bor (List ℕ))). Takes o term.now) (sym c.in-Some.is) refl,
+      strip_prefix_is Decides-eqb text term.now (Some c.in_ok-strip_prefix-in-Some.field-0) c.in_ok-strip_prefix-in-Some.ensures.cases,
+    )

@@ -1,60 +1,61 @@
-use Rattle.std.proofs.Common.{ℕ, List, length, sym, ap, ◌∙◌, subst, arith}
-use lib.Seq.{drop-length}
+use Rattle.std.proofs.Common.{◌≡◌, ℕ, length, sym, ap, ◌∙◌, subst, arith}
+use Rattle.std.proofs.lemmas.Iterator.Adapters.{YieldsList-from_rev_slice}
+use Rattle.std.proofs.lemmas.Iterator.Consumers.{YieldsList-turn, YieldsList-end}
+use Rattle.std.proofs.lemmas.List.{length_push, length-reverse}
 use Rattle.algebra.specs.Terms.{date, dating_of}
 use Rattle.algebra.specs.Texts.{event_token, terms}
 use Rattle.algebra.proofs.Bytes.{same_term}
-use Rattle.texts.specs.Stack.{Room}
-use Rattle.texts.proofs.Letters.{whole_below}
-use Rattle.texts.proofs.Readings.{dates, room, turned, finished, top_within, top_is}
+use Rattle.texts.specs.Stack.{Room, stacked}
+use Rattle.texts.proofs.Readings.{dates, room, turned, finished}
+use Rattle.texts.proofs.Reversed.{last, reversed_turn}
 use Rattle.texts.proofs.evaluation.date_of_text.Goals as goal
 
-pub loop-i-init : goal.loop-i-init
-loop-i-init g c =
-    let K = g.D.Date.kind in (
-      omega arith,
-      drop-length c.args.work.now
-          ∙ sym (ap (λ (x : List ℕ). dates K (dating_of K c.args.dating.now) (terms event_token x)) (drop-length c.args.text.now)),
-    )
-
-pub push_token-top-requires : goal.push_token-top-requires
-push_token-top-requires g c =
+pub take-requires : goal.take-requires
+take-requires g c =
     let K = g.D.Date.kind in
     let text = c.args.text.now in
     let whole = c.requires.text.whole in
-    let inv = c.loop-i.invariant in
-    record {
-      room =
-          subst (λ (n : ℕ). Room c.read_token.result c.loop-i.top (length c.loop-i.work) n) (sym c.requires.dates)
-          (room K (dating_of K c.args.dating.now) text whole.term whole.written c.loop-i.i c.loop-i-test.true c.loop-i.auto.i
-          c.loop-i.work c.loop-i.top inv.0 inv.1 24 (whole_below 24 text whole) c.requires.text.short
-          (omega (arith, c.loop-i.auto.work, c.requires.room)) c.read_token.result c.read_token.ensures);
-      within = inv.0;
-    }
+    let inv = c.loop-byte.invariant in
+    let turn =
+    reversed_turn text _ _ (YieldsList-turn (YieldsList-from_rev_slice text cc) c.loop-byte.yielded _ c.loop-byte.yielded_by _ _ _ c.in-Some.is c.next.ensures.steps) in
+    subst (λ k. Room k c.loop-byte.stack.free (length c.loop-byte.stack.dates)) (sym c.from.ensures)
+    (room K (dating_of K c.args.dating.now) text whole.term whole.written _ _ turn c.loop-byte.stack.dates inv.1 c.loop-byte.stack.free
+    c.requires.text.short (omega (arith, inv.0, c.requires.room)))
 
-pub loop-i-preserved : goal.loop-i-preserved
-loop-i-preserved g c =
+pub loop-byte-preserved : goal.loop-byte-preserved
+loop-byte-preserved g c =
     let K = g.D.Date.kind in
+    let d = dating_of K c.args.dating.now in
+    let text = c.args.text.now in
     let whole = c.requires.text.whole in
-    let inv = c.loop-i.invariant in (
-      c.push_token-top.ensures.within,
-      c.push_token-top.ensures.stack
-          ∙ turned K (dating_of K c.args.dating.now) c.args.text.now whole.term whole.written c.loop-i.i c.loop-i-test.true c.loop-i.auto.i
-          c.loop-i.work c.loop-i.top inv.0 inv.1 c.read_token.result c.read_token.ensures,
+    let inv = c.loop-byte.invariant in
+    let turn =
+    reversed_turn text _ _ (YieldsList-turn (YieldsList-from_rev_slice text cc) c.loop-byte.yielded _ c.loop-byte.yielded_by _ _ _ c.in-Some.is c.next.ensures.steps) in (
+      c.take.ensures.places ∙ inv.0,
+      c.take.ensures.dates
+          ∙ ap (λ k. stacked K d k c.loop-byte.stack.dates) c.from.ensures
+          ∙ turned K d text whole.term whole.written _ _ turn c.loop-byte.stack.dates inv.1
+          ∙ ap (λ (n : ℕ). dates K d (terms event_token (last n text))) (sym (length_push c.loop-byte.yielded c.in-Some.byte)),
     )
 
-pub bounds-work-top : goal.bounds-work-top
-bounds-work-top g c =
+pub pop-requires : goal.pop-requires
+pop-requires g c =
     let K = g.D.Date.kind in
+    let text = c.args.text.now in
     let whole = c.requires.text.whole in
-    top_within c.loop-i.work c.loop-i.top _
-    (finished K (dating_of K c.args.dating.now) c.args.text.now whole.term whole.written c.loop-i.i c.loop-i-test.false c.loop-i.work c.loop-i.top c.loop-i.invariant.1)
+    let end = YieldsList-end (YieldsList-from_rev_slice text cc) c.loop-byte.yielded _ c.loop-byte.yielded_by _ _ c.in-None.is c.next.ensures.steps in
+    let one =
+    finished K (dating_of K c.args.dating.now) text whole.term whole.written _ (end.1 ∙ length-reverse text) c.loop-byte.stack.dates
+    c.loop-byte.invariant.1 in
+    omega (arith, ap length one)
 
 pub returns : goal.returns
 returns g c t e =
     let K = g.D.Date.kind in
     let d = dating_of K c.args.dating.now in
+    let text = c.args.text.now in
     let whole = c.requires.text.whole in
-    c.index-work-top.is
-    ∙ top_is c.loop-i.work c.loop-i.top (date K d whole.term) _
-    (finished K d c.args.text.now whole.term whole.written c.loop-i.i c.loop-i-test.false c.loop-i.work c.loop-i.top c.loop-i.invariant.1)
-    ∙ ap (date K d) (same_term whole.term t (sym whole.written ∙ e))
+    let end = YieldsList-end (YieldsList-from_rev_slice text cc) c.loop-byte.yielded _ c.loop-byte.yielded_by _ _ c.in-None.is c.next.ensures.steps in
+    let one = finished K d text whole.term whole.written _ (end.1 ∙ length-reverse text) c.loop-byte.stack.dates c.loop-byte.invariant.1 in
+    let popped : c.pop.result ≡ date K d whole.term = cc (c.pop.ensures.dates, one) in
+    popped ∙ ap (date K d) (same_term whole.term t (sym whole.written ∙ e))

@@ -1,9 +1,7 @@
 use Rattle.std.proofs.Common.{◌≡◌, ℕ, ◌<◌, List, ◌++◌, length, drop, sym, refl, subst}
 use Rattle.algebra.specs.Texts.{text_of}
 use Rattle.algebra.proofs.Bytes.{every_place}
-use Rattle.texts.proofs.Evaluations.{granted}
-use Rattle.texts.proofs.Rows.{spans_part}
-use Rattle.walkthrough.proofs.Parts.{part_text}
+use Rattle.walkthrough.proofs.Parts.{part_text, dated}
 use Rattle.walkthrough.proofs.terms.date_at.Goals as goal
 
 pub returns-in_err-end : goal.returns-in_err-end
@@ -19,26 +17,8 @@ returns-in_err-end g c =
       size = refl;
     })
 
-pub returns-in-Ok : goal.returns-in-Ok
-returns-in-Ok g c =
-    let found = c.in_ok-end.ensures in
-    record {
-      told = (
-        found.0,
-        found.1,
-        c.in-Ok.ensures.outcome.1 found.0 (spans_part c.args.text.now c.args.place found.0 c.in_ok-end.end found.1),
-      );
-      all = λ w low e wide. refl;
-      size = c.in-Ok.ensures.sized;
-    }
-
-pub returns-in-Err : goal.returns-in-Err
-returns-in-Err g c =
-    let found = c.in_ok-end.ensures in
-    record {
-      told = tt;
-      all = λ w low e wide.
-          absurd (c.in-Err.ensures.outcome.fails
-          (granted _ c.args.dating.now (length c.args.work.now) (part_text c.args.text.now c.args.place found.0 c.in_ok-end.end found.1 w) e wide _));
-      size = c.in-Err.ensures.sized;
-    }
+pub returns-in_err-date-clause-all : goal.returns-in_err-date-clause-all
+returns-in_err-date-clause-all g c w low e wide =
+    let part = part_text c.args.text.now c.args.place c.in_ok-end.ensures.0 c.in_ok-end.end c.in_ok-end.ensures.1 w in
+    let found = dated g.D.Date.kind _ c.args.dating.now (length c.args.work.now) c.evaluate.result part e wide c.evaluate.ensures.outcome in
+    cc c.in_err-date.ensures.variant

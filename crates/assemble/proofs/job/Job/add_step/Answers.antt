@@ -1,9 +1,14 @@
-use Rattle.std.proofs.Common.{vec_items}
+use Rattle.std.proofs.Common.{◌≡◌, Some, refl, arith}
 use Rattle.steps.specs.Readings.{request_of}
-use Rattle.assemble.proofs.Steps.{still_filed}
+use Rattle.assemble.proofs.Steps.{with_step}
 use Rattle.assemble.proofs.job.Job.add_step.Goals as goal
 
 pub invariant_of-self : goal.invariant_of-self
-invariant_of-self c = record {
-  filed = still_filed c.args.self.now.events (request_of c.args.said.now) (vec_items c.args.self.now.steps) (vec_items c.add_step.new.file) _ c.add_step.result c.add_step.ensures.added c.add_step.ensures.left c.args.self.now.filed;
-}
+invariant_of-self c =
+    let some : c.self.inside.events ≡ Some c.in_ok-events.events = grind arith in
+    with_step c.self.inside _ c.in_ok-events.events (request_of c.args.said.now) _ c.add_step.result refl refl some c.add_step.ensures.added c.add_step.ensures.left c.self.invariant
+
+pub invariant_of-self-2 : goal.invariant_of-self-2
+invariant_of-self-2 c =
+    let some : c.self.inside.events ≡ Some c.in_ok-events.events = grind arith in
+    with_step c.self.inside _ c.in_ok-events.events (request_of c.args.said.now) _ c.add_step.result refl refl some c.add_step.ensures.added c.add_step.ensures.left c.self.invariant

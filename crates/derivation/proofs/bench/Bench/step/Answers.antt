@@ -1,59 +1,50 @@
-use Rattle.std.proofs.Common.{◌≡◌, true, ◌∷◌, Ok, Err, sym, refl, subst}
+use Rattle.std.proofs.Common.{◌≡◌, true, false, Some, Ok, Err, sym, refl, ap, ◌∙◌}
 use borrow.Author.Tests.{both_ways}
-use mathlib.Core.Logic.{∥∥₁_map}
+use Rattle.std.specs.Option.{option_copied_mut}
 use Rattle.std.proofs.lemmas.Result.{err_from_is_err_and}
-use Rattle.algebra.specs.Refusals.{Refused}
-use Rattle.texts.specs.Held.{used}
-use Rattle.steps.specs.Refusals.{step_code}
-use Rattle.steps.specs.Stepping.{StepAsks}
 use Rattle.steps.specs.declared.refusal.StepRefusal.TheVariants.{NoTree}
-use Rattle.derivation.specs.Law.{stepping, then}
-use Rattle.derivation.specs.Model.{Stepped}
-use Rattle.derivation.specs.Stands.{stands}
-use Rattle.derivation.specs.Views.{state_of}
+use Rattle.derivation.specs.Model.{Stepped, fresh, moved}
+use Rattle.derivation.specs.Stands.{state_of}
 use Rattle.steps.proofs.Answering.{answer_with_tree, no_tree}
+use Rattle.derivation.proofs.Calls.{at_once, passed_on, stepped_stands}
 use Rattle.derivation.proofs.Lawfuls.{law_step}
 use Rattle.derivation.proofs.bench.Bench.step.Goals as goal
 
-pub returns-then-not-self : goal.returns-then-not-self
-returns-then-not-self c =
-    let s = state_of c.args.self.now in
+pub returns-in_err-derivation : goal.returns-in_err-derivation
+returns-in_err-derivation c =
     let bs = c.args.bytes.now in
-    let o : Stepped s bs (Err NoTree) s = (no_tree (s.opened ≡ true) s.present s.events bs (λ o. both_ways s.opened c.if-not-self.true o), refl) in
-    record { outcome = o; law = law_step s s bs (Err NoTree) o }
+    let is = c.in_err-derivation.ensures in
+    let none = sym c.as_mut.ensures.value ∙ ap option_copied_mut is.ok_part in
+    let p = err_from_is_err_and c.from_residual.result c.from_residual.ensures.1 in
+    let why : c.from_residual.result ≡ Err NoTree = p.1 ∙ ap Err p.2 ∙ passed_on _ is.value is.ok_part in
+    let o : Stepped fresh bs (Err NoTree) fresh = (no_tree (fresh.opened ≡ true) fresh.present fresh.events bs (λ o. both_ways false refl o), refl) in
+    rw (why, none, at_once c.self.view_is none) (record { outcome = o; law = law_step fresh fresh bs (Err NoTree) o })
 
 pub returns-in_err-text : goal.returns-in_err-text
 returns-in_err-text c =
-    let s = state_of c.args.self.now in
     let bs = c.args.bytes.now in
-    let p = err_from_is_err_and c.from_residual.result c.from_residual.ensures.1 in
-    let why : Refused step_code (StepAsks (Unit {0}) s.present s.events bs) p.0 =
-    subst (Refused step_code (StepAsks (Unit {0}) s.present s.events bs)) (sym p.2) c.in_err-text.ensures.answer in
-    let o : Stepped s bs (Err p.0) s = (answer_with_tree (s.opened ≡ true) s.present s.events bs c.if-not-self.false (Err p.0) why, refl) in
-    rw p.1 (record { outcome = o; law = law_step s s bs (Err p.0) o })
+    let s = state_of (Some c.in_ok-derivation.derivation.now) in
+    let some = sym c.as_mut.ensures.value ∙ ap option_copied_mut c.in_ok-derivation.ensures.ok_part in
+    let p = err_from_is_err_and c.from_residual-in_err-text.result c.from_residual-in_err-text.ensures.1 in
+    let e = c.in_err-text.field-0.0 in
+    let o : Stepped s bs (Err e) s = (answer_with_tree (s.opened ≡ true) s.present s.events bs refl (Err e) c.in_err-text.ensures.answer, refl) in
+    rw (p.1, p.2, at_once c.self.view_is some) (record { outcome = o; law = law_step s s bs (Err e) o })
 
 pub invariant_of-self-2 : goal.invariant_of-self-2
 invariant_of-self-2 c =
-    let old = c.args.self.now in
     let bs = c.args.bytes.now in
+    let s = state_of (Some c.in_ok-derivation.derivation.now) in
+    let some = sym c.as_mut.ensures.value ∙ ap option_copied_mut c.in_ok-derivation.ensures.ok_part in
+    let was = rw some at c.self.invariant in
     let is = c.in_ok-text.ensures in
-    let s = state_of old in
-    let o = answer_with_tree (s.opened ≡ true) s.present s.events bs c.if-not-self.false (Ok (used c.in_ok-text.text)) is.answer in
-    record {
-      few = old.few;
-      source_whole = old.source_whole;
-      present_whole = ∥∥₁_map old.present_whole is.whole;
-      reached = ∥∥₁_map old.reached (is.derived _);
-      ran = ∥∥₁_map old.ran (λ r. (stepping bs (Ok tt) ∷ r.0, then (stepping bs (Ok tt)) r.1 (o.0, o.1, refl)));
-    }
+    let o = answer_with_tree (s.opened ≡ true) s.present s.events bs refl (Ok c.in_ok-text.text) is.answer in
+    stepped_stands s bs c.in_ok-text.text was (o.0, o.1, refl) (is.whole was.present.whole) (is.derived _ was.reached)
 
 pub returns : goal.returns
 returns c =
-    let old = c.args.self.now in
-    let s = state_of old in
     let bs = c.args.bytes.now in
-    let is = c.in_ok-text.ensures in
-    let s' = stands old.opened old.events old.source c.in_ok-text.text in
-    let w = answer_with_tree (s.opened ≡ true) s.present s.events bs c.if-not-self.false (Ok (used c.in_ok-text.text)) is.answer in
-    let o : Stepped s bs (Ok tt) s' = (w.0, w.1, refl) in
-    record { outcome = o; law = law_step s s' bs (Ok tt) o }
+    let s = state_of (Some c.in_ok-derivation.derivation.now) in
+    let some = sym c.as_mut.ensures.value ∙ ap option_copied_mut c.in_ok-derivation.ensures.ok_part in
+    let w = answer_with_tree (s.opened ≡ true) s.present s.events bs refl (Ok c.in_ok-text.text) c.in_ok-text.ensures.answer in
+    let o : Stepped s bs (Ok tt) (moved s c.in_ok-text.text) = (w.0, w.1, refl) in
+    rw (at_once c.self.view_is some) (record { outcome = o; law = law_step s _ bs (Ok tt) o })

@@ -1,60 +1,42 @@
-use Rattle.std.proofs.Common.{◌≡◌, Err, sym, ap, ◌∙◌, subst, arith}
+use Rattle.std.proofs.Common.{ℕ, List, Some, Result, Bor, sym, ap, ◌∙◌, subst}
 use Rattle.std.proofs.lemmas.Result.{err_from_is_err_and}
-use Rattle.steps.specs.Files.{Begins}
+use Rattle.steps.specs.Files.{NextOf, answer_at}
 use Rattle.steps.specs.declared.file.StepFault.{StepFault}
-use Rattle.steps.proofs.Running.{next_some, shorter}
-use Rattle.derivation.specs.Jobs.{Made}
-use Rattle.derivation.specs.Model.{Answer}
-use Rattle.derivation.specs.Views.{state_of}
-use Rattle.derivation.proofs.Walking.{underway_start, made_cut, made_stopped, made_ended, underway_more, count_more}
+use Rattle.derivation.proofs.Walking.{Underway, made_cut, made_stopped, made_ended, underway_more}
 use Rattle.derivation.proofs.bench.Bench.step_all.Goals as goal
-use Rattle.derivation.proofs.bench.Bench.step_all.Goals.{In-Some}
 
-begins : (c : In-Some) → Begins c.loop-bytes.left.now c.in-Some.bytes.now c.in-Some.rest.now
-begins c =
-    next_some c.loop-bytes.step _ c.next_record.result c.in_ok-bytes.field-0 (c.in-Some.bytes, c.in-Some.rest)
-    c.next_record.ensures.next (sym c.at_step.ensures ∙ c.in_ok-bytes.was) c.in-Some.is
-
-pub loop-bytes-init : goal.loop-bytes-init
-loop-bytes-init c = (λ h run. underway_start h c.args.file.now (state_of c.args.self.now) run, omega arith)
-
-pub returns-in_err-bytes : goal.returns-in_err-bytes
-returns-in_err-bytes c h run =
-    let r = c.from_residual.result in
-    let s = state_of c.loop-bytes.self in
-    let p = err_from_is_err_and r c.from_residual.ensures.1 in
-    let is : r ≡ Err c.in_err-bytes.field-0.0 = p.1 ∙ ap Err p.2 in
-    subst (λ (x : Answer StepFault). Made h c.args.file.now x s) (sym is)
-    (made_cut h c.args.file.now c.loop-bytes.step c.loop-bytes.left.now s (c.loop-bytes.invariant.0 h run)
-    c.next_record.result _ c.next_record.ensures.next (sym c.at_step.ensures ∙ c.in_err-bytes.was))
+pub returns-in_err-step : goal.returns-in_err-step
+returns-in_err-step c h run =
+    let it = c.loop-record.record-iterator in
+    let p = err_from_is_err_and c.from_residual.result c.from_residual.ensures.1 in
+    let given = subst (λ (r : Result (ℕ × Bor (List ℕ)) StepFault). NextOf it (Some r) c.next.new.self) c.in_err-step.was c.in-Some.ensures.steps in
+    rw (p.1, p.2) (made_cut h c.args.file.now it.step it.left.now c.loop-record.self (c.loop-record.invariant.2 h run) c.in_err-step.field-0.0 given.0 given.1)
 
 pub returns-in_err-at_step : goal.returns-in_err-at_step
 returns-in_err-at_step c h run =
-    let k = (goal.at.returns-in_err-at_step c).In-Some in
-    let r = c.from_residual-in_err-at_step.result in
-    let s = state_of c.loop-bytes.self in
-    let s' = state_of c.step.new.self in
-    let p = err_from_is_err_and r c.from_residual-in_err-at_step.ensures.1 in
-    let is : r ≡ Err c.in_err-at_step.field-0.0 = p.1 ∙ ap Err p.2 in
-    subst (λ (x : Answer StepFault). Made h c.args.file.now x s') (sym is)
-    (made_stopped h c.args.file.now c.loop-bytes.step c.loop-bytes.left.now s (c.loop-bytes.invariant.0 h run)
-    c.in-Some.bytes.now c.in-Some.rest.now c.step.result s' _ (begins k) c.step.ensures.outcome (sym c.at_step-in-Some.ensures ∙ c.in_err-at_step.was))
+    let it = c.loop-record.record-iterator in
+    let p = err_from_is_err_and c.from_residual-in_err-at_step.result c.from_residual-in_err-at_step.ensures.1 in
+    let given = subst (λ (r : Result (ℕ × Bor (List ℕ)) StepFault). NextOf it (Some r) c.next.new.self) c.in_ok-step.was c.in-Some.ensures.steps in
+    rw (p.1, p.2)
+    (made_stopped h c.args.file.now it.step it.left.now c.loop-record.self (c.loop-record.invariant.2 h run)
+    c.in_ok-step.bytes.now c.next.new.self.left.now c.step.result c.step.new.self c.in_err-at_step.field-0.0 given.1 c.step.ensures.outcome
+    (ap (λ (n : ℕ). answer_at n c.step.result) (sym given.0) ∙ sym c.at_step.ensures ∙ c.in_err-at_step.was))
 
-pub loop-bytes-smaller : goal.loop-bytes-smaller
-loop-bytes-smaller c = shorter _ _ _ (begins (goal.at.loop-bytes-smaller c).In-Some)
-
-pub loop-bytes-preserved : goal.loop-bytes-preserved
-loop-bytes-preserved c =
-    let b = begins (goal.at.loop-bytes-preserved c).In-Some in
-    let s = state_of c.loop-bytes.self in
-    let s' = state_of c.step.new.self in (
+pub loop-record-preserved : goal.loop-record-preserved
+loop-record-preserved c =
+    let it = c.loop-record.record-iterator in
+    let s' = c.step.new.self in
+    let given = subst (λ (r : Result (ℕ × Bor (List ℕ)) StepFault). NextOf it (Some r) c.next.new.self) c.in_ok-step.was c.in-Some.ensures.steps in (
+      tt,
+      tt,
       λ h run.
-          underway_more h c.args.file.now c.loop-bytes.step c.loop-bytes.left.now s (c.loop-bytes.invariant.0 h run)
-          c.in-Some.bytes.now c.in-Some.rest.now c.step.result s' b c.step.ensures.outcome (sym c.at_step-in-Some.ensures ∙ c.in_ok-at_step.was),
-      count_more c.args.file.now c.loop-bytes.left.now _ _ c.loop-bytes.step c.loop-bytes.invariant.1 b,
+          subst (λ (n : ℕ). Underway h c.args.file.now n c.next.new.self.left.now s') (sym given.2)
+          (underway_more h c.args.file.now it.step it.left.now c.loop-record.self (c.loop-record.invariant.2 h run)
+          c.in_ok-step.bytes.now c.next.new.self.left.now c.step.result s' given.1 c.step.ensures.outcome
+          (ap (λ (n : ℕ). answer_at n c.step.result) (sym given.0) ∙ sym c.at_step.ensures ∙ c.in_ok-at_step.was)),
     )
 
 pub returns : goal.returns
 returns c h run =
-    made_ended h c.args.file.now c.loop-bytes.step c.loop-bytes.left.now (state_of c.loop-bytes.self) (c.loop-bytes.invariant.0 h run)
-    c.next_record.result _ c.next_record.ensures.next (sym c.at_step.ensures ∙ c.in_ok-bytes.was) c.in_default.is
+    let it = c.loop-record.record-iterator in
+    made_ended h c.args.file.now it.step it.left.now c.loop-record.self (c.loop-record.invariant.2 h run) c.in-None.ensures.steps.0

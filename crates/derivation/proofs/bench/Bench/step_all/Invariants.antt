@@ -1,13 +1,10 @@
-use Rattle.std.proofs.Common.{◌+◌, ◌*◌, ◌≤◌, List, length}
+use Rattle.std.proofs.Common.{List}
 use Rattle.derivation.specs.Law.{Known, Run}
-use Rattle.derivation.specs.Views.{state_of}
 use Rattle.derivation.proofs.Walking.{Underway}
 use Rattle.derivation.proofs.bench.Bench.step_all.Given as goal
 
-abbrev pub invariant-loop-bytes : goal.invariant-loop-bytes
-invariant-loop-bytes l =
-    ((h : List Known) → Run h (state_of l.initial.self) → Underway h l.file l.step l.left (state_of l.self))
-    × (2 * l.step + length l.left ≤ 2 + length l.file)
-
-abbrev pub decreases-loop-bytes : goal.decreases-loop-bytes
-decreases-loop-bytes l = length l.left
+abbrev pub invariant-loop-record : goal.invariant-loop-record
+invariant-loop-record l =
+    (goal.iterator-loop-record).can_next l.record-iterator ×
+    (goal.iterator-loop-record).is_finite l.record-iterator ×
+    ((h : List Known) → Run h l.initial.self → Underway h l.file l.record-iterator.step l.record-iterator.left.now l.self)

@@ -1,22 +1,21 @@
-use Rattle.std.proofs.Common.{true, false, sym, ◌∙◌, ap₂, arith}
-use Rattle.sequences.specs.Dates.{counts, later}
-use Rattle.sequences.proofs.Datings.{latest_none, latest_next, read_at}
+use Rattle.std.proofs.Common.{rules, arith}
+use borrow.Author.Tests.{tests}
+use Rattle.std.proofs.lemmas.Iterator.{YieldsList-from_range, YieldsList-from_map}
+use Rattle.std.proofs.lemmas.Iterator.Consumers.{YieldsList-at, YieldsList-from_filter}
+use Rattle.algebra.specs.Terms.{dating_of, joined}
+use Rattle.algebra.specs.declared.Operator.TheVariants.{And}
+use Rattle.sequences.specs.Dates.{counts}
+use Rattle.sequences.proofs.Ranges.{reduced}
+use Rattle.sequences.proofs.Datings.{latest_by}
 use Rattle.sequences.proofs.row.Row.latest.Goals as goal
-use Rattle.sequences.proofs.row.Row.latest.Goals.{then-counts, else-counts}
 
-pub loop-v-init : goal.loop-v-init
-loop-v-init g c = latest_none g.D.Date.kind c.args.dating.now (counts c.args.self.now)
-
-pub loop-v-preserved : goal.loop-v-preserved
-loop-v-preserved g c =
+pub returns : goal.returns
+returns g c =
     let K = g.D.Date.kind in
-    let ds = c.args.dating.now in
-    let p = counts c.args.self.now in
-    let v = c.loop-v.v in
-    elim c.if-counts.branch [
-      | then-counts w ↦
-          w.best-is ∙ w.later_of-best.ensures
-          ∙ ap₂ (later K) c.loop-v.invariant (read_at K ds v w.index-dating-v.result (omega (arith, c.requires.dates, c.loop-v-test.true)) w.index-dating-v.is)
-          ∙ latest_next K ds p v true (sym w.if-counts.ensures)
-      | else-counts w ↦ w.best-is ∙ c.loop-v.invariant ∙ latest_next K ds p v false (sym w.if-counts.ensures)
-    ]
+    let d = dating_of K c.args.dating.now in
+    latest_by K d (counts c.args.self.now) c.reduce.result 24
+    (reduced (joined K And) (λ x y r q k. search (rules, tests)) c.map.result c.reduce.result c.reduce.ensures.ran
+    (YieldsList-from_map _ d
+    (YieldsList-at c.map.ensures.source
+    (YieldsList-from_filter _ (counts c.args.self.now) (YieldsList-from_range 0 24 24 c.filter.ensures.source (omega arith)) c.filter.ensures.closure (λ x r q k. search (rules, tests))))
+    c.map.ensures.closure (λ x r q k. search (rules, tests))))

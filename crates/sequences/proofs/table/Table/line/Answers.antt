@@ -1,38 +1,19 @@
-use Rattle.std.proofs.Common.{length, Ok, Err, refl, arith}
-use borrow.Author.Tests.{both_ways}
-use Rattle.sequences.specs.Tables.{LineAnswered}
-use Rattle.sequences.specs.declared.refusals.LineRefusal.TheVariants.{SmallBuffer, NoRow}
-use Rattle.sequences.proofs.Held.{line_granted, no_row, small_buffer, tells_row}
+use Rattle.std.proofs.Common.{◌<◌, length, Err, subst, rules}
+use Rattle.sequences.specs.Tables.{IsTable}
+use Rattle.sequences.specs.declared.refusals.LineRefusal.TheVariants.{SmallBuffer}
+use Rattle.sequences.proofs.Held.{tells_row}
 use Rattle.sequences.proofs.Only.{one_line}
 use Rattle.sequences.proofs.table.Table.line.Goals as goal
 
-pub returns-then-not-has_room : goal.returns-then-not-has_room
-returns-then-not-has_room c =
-    let t = c.args.self.now in
-    let row = c.args.row in
-    let old = c.args.buffer.now in
-    let why = small_buffer t row (length old) (λ h. both_ways _ c.if-not-has_room.true (c.has_room.ensures.1 h)) in
-    record { outcome = why; only = λ s h. one_line t row old old (Err SmallBuffer) s why h; left = refl; tells = tt }
+pub returns-then-not-has_room-clause-only : goal.returns-then-not-has_room-clause-only
+returns-then-not-has_room-clause-only c =
+    λ s h. one_line c.args.self.now c.args.row c.args.buffer.now c.args.buffer.now (Err SmallBuffer) s (search rules) h
 
-pub returns-then-not-has_row : goal.returns-then-not-has_row
-returns-then-not-has_row c =
-    let t = c.args.self.now in
-    let row = c.args.row in
-    let old = c.args.buffer.now in
-    let room = c.has_room.ensures.0 c.if-not-has_room.false in
-    let why = no_row t row (length old) room (λ h. both_ways _ c.if-not-has_row.true (c.has_row.ensures.1 h)) in
-    record { outcome = why; only = λ s h. one_line t row old old (Err NoRow) s why h; left = refl; tells = tt }
+pub returns-in_err-row-clause-only : goal.returns-in_err-row-clause-only
+returns-in_err-row-clause-only c =
+    λ s h. one_line c.args.self.now c.args.row c.args.buffer.now c.args.buffer.now c.from_residual.result s (search rules) h
 
-pub returns : goal.returns
-returns c =
-    let t = c.args.self.now in
-    let row = c.args.row in
-    let old = c.args.buffer.now in
-    let new = c.print.new.out in
-    let room = c.has_room.ensures.0 c.if-not-has_room.false in
-    let low = c.has_row.ensures.0 c.if-not-has_row.false in
-    let why : LineAnswered t row old new (Ok c.print.result) = (
-      line_granted t row (length old) room low,
-      record { written = c.print.ensures.written; long = c.print.ensures.long; fits = omega (arith, t.short row low, c.print.ensures.long) },
-    ) in
-    record { outcome = why; only = λ s h. one_line t row old new (Ok c.print.result) s why h; left = tt; tells = tells_row t row low }
+pub returns-clause-tells : goal.returns-clause-tells
+returns-clause-tells c =
+    let low : c.args.row < length c.args.self.now = search rules in
+    tells_row c.args.self.now c.args.row (subst IsTable c.self.view_is c.self.invariant.table) low

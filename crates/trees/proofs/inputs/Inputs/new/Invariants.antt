@@ -1,7 +1,6 @@
-use Rattle.std.proofs.Common.{◌≡◌, ℕ, ltb, length, get_or, None}
-use Rattle.algebra.specs.Terms.{leaf}
-use Rattle.trees.specs.Held.{Slot}
+use Rattle.std.proofs.Common.{[]}
+use Rattle.trees.specs.Held.{Holds}
 use Rattle.trees.proofs.inputs.Inputs.new.Given as goal
 
-abbrev pub invariant-loop-e : goal.invariant-loop-e
-invariant-loop-e l = (length l.texts ≡ 96) × ((i : ℕ) → Slot (ltb i l.e) (get_or l.texts i None) (leaf i))
+abbrev pub invariant-loop-event : goal.invariant-loop-event
+invariant-loop-event l = Holds l.event [] l.inputs
