@@ -1,5 +1,6 @@
 // A bench: a tree is opened, its text rewritten step by step, and closed; and what a bench is asked meanwhile.
-ghost use Rattle.std.specs.Prelude.{◌≡◌, ℕ, List, [], ◌∷◌, length, OnErr, OnOk};
+ghost use Rattle.std.specs.Prelude.{◌≡◌, ℕ, ◌≤◌, List, [], ◌∷◌, length, OnErr, OnOk};
+ghost use Rattle.sequences.specs.Tables.{IsTable};
 ghost use Rattle.trees.specs.Means.{Means, Source};
 ghost use Rattle.derivation.specs.Dating.{DatedAs, HandedOut, TextDated};
 ghost use Rattle.derivation.specs.Law.{Known, Lawful, Run, TreeText, closing, going, opening, stepping};
@@ -48,6 +49,8 @@ impl Model for Bench {
 
 // The calls.
 impl Bench {
+    ghost use Rattle.derivation.specs.Stands.{Stands};
+
     // A bench with no tree.
     pub fn new() -> Bench
         ensures state { result ≡ fresh }
@@ -60,8 +63,11 @@ impl Bench {
     pub fn open(&mut self, tree: &[u8]) -> Result<(), TreeRefusal>
         ensures outcome { Opened self.old tree.now result self.new }
         ensures meaning { OnOk result (Means tree.now (open_tree self.new)) }
+        ensures stands { Stands self.new }
         ensures law { (h : List Known) → Run h self.old → Lawful (opening tree.now result ∷ h) self.new going }
     {
+        // A method knows what holds of a bench where it uses a field.
+        let _ = &self.derivation;
         let tree = read_tree(tree)?;
         self.derivation = Some(Derivation {
             tree,
@@ -73,6 +79,7 @@ impl Bench {
     // Applies the rule of a step record to the present text.
     pub fn step(&mut self, bytes: &[u8]) -> Result<(), StepRefusal>
         ensures outcome { Stepped self.old bytes.now result self.new }
+        ensures stands { Stands self.new }
         ensures law { (h : List Known) → Run h self.old → Lawful (stepping bytes.now result ∷ h) self.new going }
     {
         let derivation = self.derivation.as_mut().ok_or(StepRefusal::NoTree)?;
@@ -84,19 +91,23 @@ impl Bench {
     // Closes the present text into the table. The bench is used up, granted or not.
     pub fn close(self, table: &mut Table) -> Result<(), CloseRefusal>
         ensures outcome { Closed self table.old result table.new }
+        ensures rows { IsTable table.new }
         ensures left { OnErr result (table.new ≡ table.old) }
         ensures law { (h : List Known) → Run h self → Lawful h self (closing table.old result table.new) }
     {
+        // What holds of every table, its `len` tells.
+        let _ = table.len();
         let derivation = self.derivation.ok_or(CloseRefusal::NoTree)?;
         table.close(derivation.present.as_bytes())
     }
 }
 
-// What is asked without a change. The dates of the two texts are two questions of the interface.
+// What is asked without a change. The dates of the two texts are two questions of the interface. Each call tells what
+// holds of every bench.
 impl Bench {
     ghost use Rattle.derivation.specs.Stands.{Stands};
 
-    // Whether a tree is open. Callers learn here what holds of every bench.
+    // Whether a tree is open.
     pub fn is_open(&self) -> bool
         ensures is { result ≡ self.now.opened }
         ensures stands { Stands self.now }
@@ -106,7 +117,9 @@ impl Bench {
 
     // How many events the tree has.
     pub fn events(&self) -> u8
-        ensures { result ≡ self.now.events }
+        ensures is { result ≡ self.now.events }
+        ensures few { result ≤ 24 }
+        ensures stands { Stands self.now }
     {
         self.derivation
             .as_ref()
@@ -117,6 +130,7 @@ impl Bench {
     pub fn source(&self) -> &[u8]
         ensures is { result.now ≡ self.now.source }
         ensures text { Source self.now.events self.now.source }
+        ensures stands { Stands self.now }
     {
         self.derivation
             .as_ref()
@@ -127,6 +141,7 @@ impl Bench {
     pub fn present(&self) -> &[u8]
         ensures is { result.now ≡ self.now.present }
         ensures text { Source self.now.events self.now.present }
+        ensures stands { Stands self.now }
     {
         self.derivation
             .as_ref()
@@ -135,7 +150,8 @@ impl Bench {
 
     // The term at a place, as a part of the present text.
     pub fn term_at(&self, place: usize) -> Result<&[u8], StepRefusal>
-        ensures { HandedOut self.now place result }
+        ensures handed { HandedOut self.now place result }
+        ensures stands { Stands self.now }
     {
         let derivation = self.derivation.as_ref().ok_or(StepRefusal::NoTree)?;
         let text = derivation.present.as_bytes();
@@ -146,6 +162,7 @@ impl Bench {
     // The date of the present text. It is the same as that of the tree last opened, whatever calls have led here.
     pub fn date<D: Date>(&self, dating: &[D], work: &mut [D]) -> Result<D, EvaluationRefusal>
         ensures value { TextDated D.kind dating.now (length work.old) self.now.present result }
+        ensures stands { Stands self.now }
         ensures law { (h : List Known) (text : List ℕ) → Run h self.now → TreeText h text → DatedAs D.kind dating.now text result }
         ensures sized { length work.new ≡ length work.old }
         ensures left { OnErr result (work.new ≡ work.old) }
@@ -156,6 +173,7 @@ impl Bench {
     // The date of the source text, which is that of the tree last opened; no tree is dated never.
     pub fn source_date<D: Date>(&self, dating: &[D], work: &mut [D]) -> Result<D, EvaluationRefusal>
         ensures value { TextDated D.kind dating.now (length work.old) self.now.source result }
+        ensures stands { Stands self.now }
         ensures law { (h : List Known) (text : List ℕ) → Run h self.now → TreeText h text → DatedAs D.kind dating.now text result }
         ensures sized { length work.new ≡ length work.old }
         ensures left { OnErr result (work.new ≡ work.old) }

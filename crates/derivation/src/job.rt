@@ -1,7 +1,9 @@
 // A whole job on the bytes of two files: open the tree, make the steps, close into the table.
 ghost use Rattle.std.specs.Prelude.{◌≡◌, List, OnErr};
+ghost use Rattle.sequences.specs.Tables.{IsTable};
 ghost use Rattle.derivation.specs.Jobs.{Job, Made};
 ghost use Rattle.derivation.specs.Law.{Known, Run};
+ghost use Rattle.derivation.specs.Stands.{Stands};
 ghost use Rattle.derivation.specs.declared.job.JobFault.TheVariants as fault;
 
 use crate::bench::Bench;
@@ -51,8 +53,11 @@ impl From<CloseRefusal> for JobFault {
 impl Bench {
     // Makes the steps of a file, in which each record has its length before it. The first one refused is named.
     pub fn step_all(&mut self, file: &[u8]) -> Result<(), StepFault>
-        ensures { (h : List Known) → Run h self.old → Made h file.now result self.new }
+        ensures made { (h : List Known) → Run h self.old → Made h file.now result self.new }
+        ensures stands { Stands self.new }
     {
+        // What holds of every bench, each of its calls tells; there may be no step to make.
+        let _ = self.is_open();
         for record in Records::of(file) {
             let (step, bytes) = record?;
             at_step(self.step(bytes), step)?;
@@ -64,8 +69,11 @@ impl Bench {
 // Opens the tree, makes the steps of the file, and closes into the table. A refusal leaves the table as it was.
 pub fn derive(tree: &[u8], file: &[u8], table: &mut Table) -> Result<(), JobFault>
     ensures job { Job tree.now file.now table.old result table.new }
+    ensures rows { IsTable table.new }
     ensures left { OnErr result (table.new ≡ table.old) }
 {
+    // What holds of every table, its `len` tells.
+    let _ = table.len();
     let mut bench = Bench::new();
     bench.open(tree)?;
     bench.step_all(file)?;

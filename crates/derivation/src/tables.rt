@@ -1,6 +1,6 @@
 // The date of a table that a bench was closed into, at every kind of date.
 ghost use Rattle.std.specs.Prelude.{ℕ, List, Ok};
-ghost use Rattle.sequences.specs.Tables.{TableDated};
+ghost use Rattle.sequences.specs.Tables.{IsTable, TableDated};
 ghost use Rattle.sequences.specs.declared.row.Row.{Row};
 ghost use Rattle.derivation.specs.Dating.{DatedAs, TablesSpeak};
 ghost use Rattle.derivation.specs.Law.{Known, Run, TreeText};
@@ -14,6 +14,7 @@ use sequences::table::Table;
 // closed into this table.
 pub fn table_date<D: Date>(table: &Table, dating: &[D]) -> Result<D, TableRefusal>
     ensures value { TableDated D.kind dating.now table.now result }
+    ensures rows { IsTable table.now }
     ensures law { (h : List Known) (s : State) (old : List Row) (text : List ℕ) → Run h s → Closed s old (Ok tt) table.now → TreeText h text → DatedAs D.kind dating.now text result }
 {
     table.date(dating)

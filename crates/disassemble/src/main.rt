@@ -5,7 +5,8 @@ use assembly::tree_bytes::{Layout, read_layout};
 use front_of_file::read;
 use notation::records::record_line;
 use notation::step_words::step_line;
-use std::io::{self, Write};
+use std::io;
+use std::str::from_utf8;
 use steps::record::read_step;
 use steps::records::Records;
 
@@ -20,7 +21,8 @@ fn tell_tree(rt: &(impl Print + AllocGlobal), layout: &Layout) -> io::Result<()>
     Ok(())
 }
 
-// The line of a step record, or that it is not well-formed.
+// The line of a step record, or that it is not well-formed. Where the tree has more than 31 events, a term may hold bytes
+// that are no plain text, and no line can say such a step either.
 fn tell_step(
     rt: &(impl Print + AllocGlobal),
     events: u8,
@@ -30,9 +32,11 @@ fn tell_step(
     let Ok(said) = read_step(bytes, events) else {
         return println!(rt; "# step {number} is not well-formed");
     };
-    let mut line = step_line(rt.alloc(), &said)?;
-    line.push(b'\n')?;
-    io::writer(rt).write_all(line.as_slice())
+    let line = step_line(rt.alloc(), &said)?;
+    match from_utf8(line.as_slice()) {
+        Ok(text) => println!(rt; "{text}"),
+        Err(_) => println!(rt; "# step {number} is not well-formed"),
+    }
 }
 
 // The lines of a file of steps.
@@ -49,14 +53,14 @@ fn tell_steps(rt: &(impl Print + AllocGlobal), events: u8, file: &[u8]) -> io::R
     Ok(())
 }
 
-// A file that cannot be read counts as empty.
+// A file that cannot be read counts as empty. That of the steps is read only once the tree is told.
 fn main(rt: HostRuntime) -> io::Result<()> {
     let alloc = rt.alloc();
     let tree = read(&rt, alloc, "tree.bin").unwrap_or(Vec::new(alloc));
-    let steps = read(&rt, alloc, "steps.bin").unwrap_or(Vec::new(alloc));
     let Ok(layout) = read_layout(alloc, tree.as_slice()) else {
         return println!(rt; "# tree.bin is not made of records");
     };
     tell_tree(&rt, &layout)?;
+    let steps = read(&rt, alloc, "steps.bin").unwrap_or(Vec::new(alloc));
     tell_steps(&rt, layout.events, steps.as_slice())
 }

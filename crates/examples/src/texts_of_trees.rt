@@ -1,6 +1,6 @@
 // The reader of trees on examples.
 use algebra::Refusal;
-use trees::reader::read_tree;
+use trees::reader::{Tree, read_tree};
 
 // The number of the refusal.
 fn refusal(bytes: &[u8]) -> Option<u8> {
@@ -16,6 +16,24 @@ fn gives(bytes: &[u8], events: u8, text: &[u8]) -> bool {
 fn length(bytes: &[u8]) -> Option<usize> {
     let tree = read_tree(bytes).ok()?;
     Some(tree.source.as_bytes().len())
+}
+
+// The length of the source text of a tree that is handed over.
+fn text_length(tree: Tree) -> usize {
+    tree.source.as_bytes().len()
+}
+
+// A tree is handed over twice, so it is copied.
+fn handed_over_twice(tree: Tree) -> usize {
+    let first = text_length(tree);
+    let second = text_length(tree);
+    first.max(second)
+}
+
+#[test]
+fn a_tree_is_copied(rt: HostRuntime) {
+    let long = read_tree(b"\x02\x01\x07\x02\x00\x01").map(|tree| handed_over_twice(tree));
+    assert!(rt; long == Ok(5));
 }
 
 #[test]

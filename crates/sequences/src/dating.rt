@@ -18,14 +18,13 @@ impl Row {
         member(self.letters, v) || self.before.has_any(v) || self.ties.has_any(v)
     }
 
-    // The pairs of v and w meet their operators' tests.
+    // The pairs of v and w meet their operators' tests. Dates are looked up only where a pair stands: nearly all do not.
     fn pair_meets<D: Date>(&self, v: u8, w: u8, dating: &Dating<'_, D>) -> bool
         requires { (v < 24) × (w < 24) }
         ensures { result ≡ pair_meets D.kind self.now v w (dating_of D.kind dating.now v) (dating_of D.kind dating.now w) }
     {
-        let p = dating.date_of(v);
-        let q = dating.date_of(w);
-        (!self.before.has(v, w) || p.is_before(q)) && (!self.ties.has(v, w) || p.is_same(q))
+        let before = !self.before.has(v, w) || dating.date_of(v).is_before(dating.date_of(w));
+        before && (!self.ties.has(v, w) || dating.date_of(v).is_same(dating.date_of(w)))
     }
 
     // The pairs whose first letter is v meet their operators' tests.

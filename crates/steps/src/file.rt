@@ -1,5 +1,5 @@
 // A file of steps: its records, and the text after all of them.
-ghost use Rattle.std.specs.Prelude.{◌≡◌, ℕ, List, IfOk};
+ghost use Rattle.std.specs.Prelude.{◌≡◌, ℕ, ◌≤◌, List, length, IfOk};
 ghost use Rattle.algebra.specs.Steps.{Derived};
 ghost use Rattle.algebra.specs.Texts.{Whole};
 ghost use Rattle.steps.specs.Files.{NextRecord, OneRecord, OneRun, Runs, answer_at};
@@ -47,11 +47,14 @@ pub fn apply_steps(text: Text, events: u8, file: &[u8]) -> Result<Text, StepFaul
     ensures one { OneRun events text file.now }
     ensures whole { IfOk result (λ new. Whole events text → Whole events new) }
     ensures derived { IfOk result (λ new. (bs : List ℕ) → Derived bs text → Derived bs new) }
+    ensures short { IfOk result (λ new. length new ≤ 511) }
 {
     let mut present = text;
     for record in Records::of(file) {
         let (step, bytes) = record?;
         present = at_step(apply_step(&present, events, bytes), step)?;
     }
+    // A text tells its bound where its bytes are asked for.
+    let _bytes = present.as_bytes();
     Ok(present)
 }

@@ -1,5 +1,6 @@
 pub mod Refusals
 pub mod Records
+pub mod Trees
 pub mod Triggers
 pub mod Gates
 pub mod Fit

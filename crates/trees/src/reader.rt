@@ -7,6 +7,7 @@ use crate::counts::Counts;
 use crate::inputs::Inputs;
 use crate::record::read_record;
 use crate::refusal::TreeRefusal;
+use std::marker::Model;
 use texts::text::Text;
 
 // How many events a tree has, and its source text.
@@ -14,6 +15,18 @@ use texts::text::Text;
 pub struct Tree {
     pub events: u8,
     pub source: Text,
+}
+
+// The model forgets nothing. It is here since a text has one: a `Copy` struct that holds such a text, and has no model of
+// its own, is not copied where it is passed by value.
+impl Model for Tree {
+    ghost use Rattle.trees.specs.Trees.{TreeParts};
+
+    ghost Value = { TreeParts };
+
+    ghost view = { λ t. record { events = t.events; source = t.source } };
+
+    ghost inverse = { λ t. record { events = t.events; source = t.source } };
 }
 
 // What comes of the bytes after the last record, and of its text.

@@ -2,7 +2,7 @@
 ghost use Rattle.std.specs.Prelude.{◌≡◌, IfOk, Result};
 ghost use Rattle.algebra.specs.Terms.{dating_of};
 ghost use Rattle.sequences.specs.Dates.{RowsDated, table_date};
-ghost use Rattle.sequences.specs.Tables.{KeepsDateOf, TableDated};
+ghost use Rattle.sequences.specs.Tables.{IsTable, KeepsDateOf, TableDated};
 ghost use Rattle.sequences.specs.declared.refusals.TableRefusal.{TableRefusal};
 
 use super::Table;
@@ -30,8 +30,10 @@ impl Table {
         ensures only { (s : Result D TableRefusal) → TableDated D.kind dating.now self.now s → s ≡ result }
         ensures earliest { IfOk result (λ p. RowsDated D.kind (dating_of D.kind dating.now) self.now p) }
         ensures keeps { IfOk result (λ p. KeepsDateOf D.kind dating.now self.now p) }
+        ensures rows { IsTable self.now }
     {
+        let rows = &self.rows[..self.len];
         let dating = Dating::new(dating).ok_or(TableRefusal::NoDating)?;
-        Ok(earliest(&self.rows[..self.len], &dating))
+        Ok(earliest(rows, &dating))
     }
 }

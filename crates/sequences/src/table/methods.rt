@@ -39,7 +39,8 @@ impl Table {
 
     // Whether the table has no rows.
     pub fn is_empty(&self) -> bool
-        ensures { IsTrue result ↔ (self.now ≡ []) }
+        ensures none { IsTrue result ↔ (self.now ≡ []) }
+        ensures rows { IsTable self.now }
     {
         self.len == 0
     }
@@ -50,12 +51,14 @@ impl Table {
         ensures outcome { Closed text.now (λ _. Holds text.now self.new) result }
         ensures only { (s : Result (Unit {0}) CloseRefusal) → Closed text.now (λ _. Holds text.now self.new) s → s ≡ result }
         ensures left { OnErr result (self.new ≡ self.old) }
-        ensures rows { OnOk result (IsTable self.new) }
+        ensures rows { IsTable self.new }
         ensures dates { OnOk result (KeepsDates text.now self.new) }
         ensures happen { OnOk result (All HappensByTicks self.new) }
         ensures impossible { RefusedExactly text.now result }
         ensures nowhere { RefusedNowhere text.now result }
     {
+        // A method knows what holds of a table where it uses a field.
+        let _ = &self.len;
         *self = Table::closed(text)?;
         Ok(())
     }
@@ -67,11 +70,13 @@ impl Table {
         ensures only { (s : Result ℕ LineRefusal) → LineAnswered self.now row buffer.old buffer.new s → s ≡ result }
         ensures left { OnErr result (buffer.new ≡ buffer.old) }
         ensures tells { OnOk result (TellsRow self.now row) }
+        ensures rows { IsTable self.now }
     {
+        let rows = &self.rows[..self.len];
         if !has_room(buffer) {
             return Err(LineRefusal::SmallBuffer);
         }
-        let row = self.rows[..self.len].get(row).ok_or(LineRefusal::NoRow)?;
+        let row = rows.get(row).ok_or(LineRefusal::NoRow)?;
         Ok(Line::of(row).copy_to(buffer))
     }
 }

@@ -16,7 +16,7 @@ returns-in_err-derivation c =
     let why : c.from_residual.result ≡ Err NoTree = p.1 ∙ ap Err p.2 ∙ passed_on _ is.value is.ok_part in
     let o : Closed fresh t (Err NoTree) t = (no_tree fresh refl, refl) in
     rw (why, at_once c.self.view_is is.ok_part)
-    (record { outcome = o; left = refl; law = λ h run. lawful_closed h fresh t (Err NoTree) t run o (happens_at t (Err NoTree) tt) })
+    (record { outcome = o; rows = c.len.ensures.rows; left = refl; law = λ h run. lawful_closed h fresh t (Err NoTree) t run o (happens_at t (Err NoTree) tt) })
 
 pub returns : goal.returns
 returns c =
@@ -26,4 +26,4 @@ returns c =
     let is = c.close.ensures in
     let o = closed_by s refl t t' c.close.result (rw c.as_bytes.ensures.bytes at is.outcome) is.left in
     rw (at_once c.self.view_is c.in_ok-derivation.ensures.ok_part)
-    (record { outcome = o; left = is.left; law = λ h run. lawful_closed h s t c.close.result t' run o (happens_at t' c.close.result is.happen) })
+    (record { outcome = o; rows = is.rows; left = is.left; law = λ h run. lawful_closed h s t c.close.result t' run o (happens_at t' c.close.result is.happen) })

@@ -1,7 +1,8 @@
-use Rattle.std.proofs.Common.{Ok, Err, sym, refl, subst}
+use Rattle.std.proofs.Common.{Ok, Err, sym, refl, ap, subst}
 use Rattle.std.proofs.lemmas.Result.{err_from_is_err_and}
 use Rattle.trees.specs.Reading.{Outcome, refuses}
 use Rattle.trees.specs.Refusals.{tree_code}
+use Rattle.trees.specs.Trees.{TreeParts}
 use Rattle.trees.specs.declared.refusal.TreeRefusal.{TreeRefusal}
 use Rattle.derivation.specs.Model.{Opened}
 use Rattle.derivation.proofs.Calls.{opened_stands}
@@ -17,7 +18,12 @@ returns-in_err-tree-clause-law c =
     rw p.1 (law_open s s bs (Err p.0) o)
 
 pub invariant_of-self : goal.invariant_of-self
-invariant_of-self c = opened_stands _ c.args.tree.now c.in_ok-tree.tree c.self.invariant c.in_ok-tree.ensures.outcome c.in_ok-tree.ensures.source
+invariant_of-self c = rw (ap (λ (t : TreeParts). t.source) c.tree.view_is) (opened_stands _ c.args.tree.now c.in_ok-tree.tree c.self.invariant c.in_ok-tree.ensures.outcome c.in_ok-tree.ensures.source)
 
 pub returns-clause-law : goal.returns-clause-law
-returns-clause-law c = law_open c.args.self.now _ c.args.tree.now (Ok tt) (c.in_ok-tree.ensures.outcome, refl, refl)
+returns-clause-law c =
+    rw (ap (λ (t : TreeParts). t.source) c.tree.view_is) (law_open c.args.self.now _ c.args.tree.now (Ok tt) (c.in_ok-tree.ensures.outcome, refl, refl))
+
+pub returns-clause-stands : goal.returns-clause-stands
+returns-clause-stands c =
+    rw (ap (λ (t : TreeParts). t.source) c.tree.view_is) (opened_stands _ c.args.tree.now c.in_ok-tree.tree c.self.invariant c.in_ok-tree.ensures.outcome c.in_ok-tree.ensures.source)

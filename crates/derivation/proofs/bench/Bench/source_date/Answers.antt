@@ -12,6 +12,7 @@ returns g c =
     let v = text_dated K s.source ds (length c.args.work.now) c.source.ensures.text.text c.evaluate.result (rw (← c.source.ensures.is) c.evaluate.ensures.outcome) in
     record {
       value = v;
+      stands = c.source.ensures.stands;
       law = λ h tree run is. dated_as K ds _ s.source tree (source_dates K (dating_of K ds) h s run tree is) c.evaluate.result v;
       sized = c.evaluate.ensures.sized;
       left = c.evaluate.ensures.left;

@@ -20,7 +20,7 @@ returns-in_err-end c =
     let why : c.from_residual-in_err-end.result ≡ Err Place = p.1 ∙ ap Err p.2 ∙ passed_on _ is.value is.ok_part in
     let none = rw c.as_bytes-text.ensures.bytes at (rw is.ok_part at c.term_end.ensures) in
     let was = rw some at c.self.invariant in
-    rw (why, at_once c.self.view_is some) (no_place s place refl (past_end _ s.present place was.present.whole none))
+    rw (why, at_once c.self.view_is some) (record { handed = no_place s place refl (past_end _ s.present place was.present.whole none); stands = was })
 
 pub returns : goal.returns
 returns c =
@@ -31,7 +31,11 @@ returns c =
     let found : (t : Term ℕ) × Spans c.as_bytes-text.result.now place t end = rw c.in_ok-end.ensures.ok_part at c.term_end.ensures in
     let w = subst (λ (x : List ℕ). Spans x place found.0 end) c.as_bytes-text.ensures.bytes found.1 in
     let part = spans_part _ place found.0 end found.1 in
-    rw (at_once c.self.view_is some) (
-      term_asked s place refl (spans_inside s.present place found.0 end w),
-      record { term = found.0; rest = drop end s.present; bytes = part; here = w.here ∙ ap (λ x. x ++ drop end s.present) (sym part) },
-    )
+    rw (at_once c.self.view_is some)
+    (record {
+      handed = (
+        term_asked s place refl (spans_inside s.present place found.0 end w),
+        record { term = found.0; rest = drop end s.present; bytes = part; here = w.here ∙ ap (λ x. x ++ drop end s.present) (sym part) },
+      );
+      stands = rw some at c.self.invariant;
+    })
